@@ -1,10 +1,13 @@
 -- tests of a list, one lane of four further, and lists of zeros
 use Rattle.std.proofs.Common.{◌≡◌, ℕ, zero, suc, ◌+◌, ◌-◌, ◌≤◌, Bool, true, false, ◌==◌, ◌<◌, ◌&&◌, List, slice_index}
-use Rattle.std.proofs.Common.{slice_set, [], ◌∷◌, length, take, drop, replicate, bit_or, refl, arith, take-add}
+use Rattle.std.proofs.Common.{slice_set, [], ◌∷◌, length, take, drop, map, replicate, bit_or, refl, sym, ap, ◌∙◌, arith}
+use Rattle.std.proofs.Common.{take-add}
 use Rattle.std.specs.List.{list_all}
 use Rattle.std.specs.Simd.Lanes.{zip2, fold_l, chunk, put_chunk}
 use Rattle.std.proofs.lemmas.Bool.Decides.{nat_tests}
-use Rattle.std.proofs.lemmas.List.{get_or_past, take-append-drop, replicate-append-replicate, drop-drop, take_more_set}
+use Rattle.std.proofs.lemmas.List.{length-take, length-drop, take-map, drop-take, take_all, get_or_past}
+use Rattle.std.proofs.lemmas.List.{drop-map, take-append-drop, replicate-append-replicate, drop-drop}
+use Rattle.std.proofs.lemmas.List.{take_more_set}
 use Rattle.std.proofs.lemmas.List.Folds.{list_all_at, list_all-append}
 use Rattle.std.proofs.lemmas.Nat.{le_or_l}
 use Rattle.std.proofs.lemmas.Simd.{chunk-drop, get_or-chunk, take_more_put_chunk}
@@ -87,3 +90,31 @@ zero_in_stretch k n xs h i from to =
 pub zero_in_lane : (k : ℕ) (xs : List ℕ) → list_all (λ w. w == 0) (chunk k 4 xs) ≡ true → (i : ℕ) → k ≤ i → i < k + 4
     → slice_index xs i ≡ 0
 zero_in_lane k xs = zero_in_stretch k 4 xs
+
+-- the lane at the front of what is left of a row
+pub lane_of_rest : (f : ℕ → ℕ) (k : ℕ) (ws rest : List ℕ) → rest ≡ drop k ws
+    → chunk 0 4 (map f rest) ≡ chunk k 4 (map f ws)
+lane_of_rest f k ws rest same = ap (λ xs. chunk 0 4 xs) (ap (map f) same ∙ sym (drop-map f k ws))
+
+-- the last lane of the front of a row
+pub lane_of_front : (f : ℕ → ℕ) (k end : ℕ) (ws : List ℕ) → end ≡ k + 4
+    → chunk k 4 (map f (take end ws)) ≡ chunk k 4 (map f ws)
+lane_of_front f k end ws e =
+    ap (λ xs. chunk k 4 xs) (sym (take-map f end ws) ∙ ap (λ n. take n (map f ws)) e)
+    ∙ ap (take 4) (drop-take k 4 (map f ws))
+    ∙ take_all 4 (take 4 (drop k (map f ws))) (omega (arith, length-take 4 (drop k (map f ws))))
+
+-- what is left of a row behind the lane at its front, as `&rest[4..]` writes it
+module _ (ws rest : List ℕ) (n : ℕ) (left : n ≡ length rest - 4) (four : 4 ≤ length rest)
+    (same : rest ≡ drop (length ws - length rest) ws) (within : length rest ≤ length ws) where
+  pub length_left : length (take n (drop 4 rest)) + 4 ≡ length rest
+  length_left =
+      let enough = take_all n (drop 4 rest) (omega (arith, left, length-drop 4 rest)) in
+      omega (arith, left, four, length-drop 4 rest, ap length enough)
+
+  pub rest_left : take n (drop 4 rest) ≡ drop (length ws - length (take n (drop 4 rest))) ws
+  rest_left =
+      take_all n (drop 4 rest) (omega (arith, left, length-drop 4 rest))
+      ∙ ap (drop 4) same
+      ∙ drop-drop 4 (length ws - length rest) ws
+      ∙ ap (λ k. drop k ws) (omega (arith, length_left, four, within))

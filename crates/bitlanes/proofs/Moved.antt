@@ -1,6 +1,7 @@
 -- Words made of two words that follow each other.
 use Rattle.std.proofs.Common.{map, ◌≡◌, ℕ, ◌+◌, ◌-◌, ◌*◌, ◌/◌, ◌%◌, ◌^◌, ◌<◌, ◌≤◌, List, length, take}
 use Rattle.std.proofs.Common.{drop, replicate, bit_or, get_or, set, refl, sym, ◌∙◌, arith, pow_pos}
+use Rattle.std.specs.Int.Bits.{or_zero_r}
 use Rattle.std.specs.Simd.Lanes.{zip2, chunk, put_chunk}
 use Rattle.std.proofs.lemmas.List.{length-map, get_or-map, get_or-set_same, get_or-set_other}
 use Rattle.std.proofs.lemmas.List.{get_or_past, get_or-drop, take_all, length-drop}
@@ -44,6 +45,13 @@ module _ (low high : List ℕ) (r : ℕ) (four_low : length low ≡ 4) (four_hig
       let same = length-zip2 bit_or (map lowered low) (map raised high)
       (omega (arith, length-map low lowered, length-map high raised)) in
       rw (mapped, same) (omega (arith, length-map low lowered))
+
+-- the bits of a word with none behind it
+pub straddle_last : (r low : ℕ) → low / 2 ^ r ≡ straddle r low 0
+unfolding straddle
+straddle_last r low =
+    let none : 0 * 2 ^ 1 % 2 ^ 64 * 2 ^ (63 - r) % 2 ^ 64 ≡ 0 = omega arith in
+    rw none (sym (or_zero_r (low / 2 ^ r)))
 
 -- a row from word n on
 pub up_to_end : (n : ℕ) (ws : List ℕ) → take (length ws - n) (drop n ws) ≡ drop n ws

@@ -9,7 +9,7 @@ use Rattle.bitlanes.specs.Words.{lane_steps}
 use Rattle.bitlanes.proofs.Folding.{all_chunk, zero_in_stretch}
 
 -- a stretch whose words are 0, one by one
-zeros_upto : (n : ℕ) (xs : List ℕ) → ((i : ℕ) → i < n → slice_index xs i ≡ 0)
+pub zeros_upto : (n : ℕ) (xs : List ℕ) → ((i : ℕ) → i < n → slice_index xs i ≡ 0)
     → list_all (λ w. w == 0) (take n xs) ≡ true
 zeros_upto zero xs h = refl
 zeros_upto (suc n) [] h = refl

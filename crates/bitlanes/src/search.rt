@@ -39,7 +39,17 @@ pub fn first_one(words: &[Block], steps: &mut Steps) -> Option<usize>
     ensures cost { IfSome result (λ at. steps.new ≡ steps.old + lane_steps (at + 1)) }
     ensures exact_if_none { IfNone result (steps.new ≡ steps.old + lane_steps (length words.now)) }
 {
-    next_one::<And>(Block::MAX, words, 0, steps)
+    // Four words or fewer are looked at one by one at once.
+    let start = if words.len() > LANE {
+        skip_zeros::<And>(Block::MAX, words, 0, steps)
+    } else {
+        0
+    };
+    if words.len() - start >= LANE {
+        steps.tick();
+        return first_in_lane::<And>(Block::MAX, words, start);
+    }
+    next_one::<And>(Block::MAX, words, start, steps)
 }
 
 /// The place of the last word that is not 0, or `None` where each word is 0.
@@ -61,7 +71,17 @@ pub fn last_one(words: &[Block], steps: &mut Steps) -> Option<usize>
         (λ at. steps.new ≡ steps.old + lane_steps (length words.now - at)) }
     ensures exact_if_none { IfNone result (steps.new ≡ steps.old + lane_steps (length words.now)) }
 {
-    previous_one::<And>(Block::MAX, words, words.len(), steps)
+    // Four words or fewer are looked at one by one at once.
+    let end = if words.len() > LANE {
+        skip_zeros_back::<And>(Block::MAX, words, words.len(), steps)
+    } else {
+        words.len()
+    };
+    if end >= LANE {
+        steps.tick();
+        return last_in_lane::<And>(Block::MAX, words, end - LANE);
+    }
+    previous_one::<And>(Block::MAX, words, end, steps)
 }
 
 /// The place of the first word, from place `from` on, that is not 0 when `mask` is joined with it
@@ -90,6 +110,11 @@ pub fn next_one<O: WordOp>(
 {
     // Four words or fewer are looked at one by one at once.
     let start = if words.len() - from > LANE {
+        // The first word is looked at by itself: in a loop of such calls it mostly is the one.
+        if O::word(mask, words[from]) != 0 {
+            steps.tick();
+            return Some(from);
+        }
         skip_zeros::<O>(mask, words, from, steps)
     } else {
         from
@@ -135,11 +160,12 @@ pub fn skip_zeros<O: WordOp>(mask: Block, words: &[Block], from: usize, steps: &
         tick_four(steps);
         start += FOUR;
     }
-    while words.len() - start >= LANE && is_zero(masked_lane_at::<O>(mask, words, start)) {
+    let mut rest = &words[start..];
+    while rest.len() >= LANE && is_zero(masked_lane_at::<O>(mask, rest, 0)) {
         steps.tick();
-        start += LANE;
+        rest = &rest[LANE..];
     }
-    start
+    words.len() - rest.len()
 }
 
 /// The place of the last word, below place `below`, that is not 0 when `mask` is joined with it by
@@ -184,7 +210,8 @@ pub fn previous_one<O: WordOp>(
 }
 
 // The place, a multiple of four words before `below`, from which on each word below that is 0 when
-// `mask` is joined with it by `O`. It stops where four words or fewer are left.
+// `mask` is joined with it by `O`. It stops where one of the four words before it is not, or where
+// four words or fewer are left.
 #[inline(always)]
 #[tactic(auto, using(crate::proofs::Folding::zero_in_lane))]
 fn skip_zeros_back<O: WordOp>(
@@ -197,6 +224,8 @@ fn skip_zeros_back<O: WordOp>(
     ensures within { result ≤ below }
     ensures zeros { (i : ℕ) → result ≤ i → i < below
         → slice_index (map (O.joined mask) words.now) i ≡ 0 }
+    ensures stop { 4 < result
+        → has_no_ones (chunk (result - 4) 4 (map (O.joined mask) words.now)) ≡ false }
     ensures cost { 4 * steps.new ≡ 4 * steps.old + (below - result) }
 {
     let mut end = below;
@@ -204,7 +233,7 @@ fn skip_zeros_back<O: WordOp>(
         tick_four(steps);
         end -= FOUR;
     }
-    while end > LANE && is_zero(masked_lane_at::<O>(mask, words, end - LANE)) {
+    while end > LANE && is_zero(masked_lane_at::<O>(mask, &words[..end], end - LANE)) {
         steps.tick();
         end -= LANE;
     }
@@ -240,6 +269,44 @@ pub fn first_joined<O: WordOp>(a: &[Block], b: &[Block], steps: &mut Steps) -> O
         }
         if word_at::<O>(a, b, at) != 0 {
             return Some(at);
+        }
+    }
+    None
+}
+
+// The place of the first of the four words from `start` on that is not 0 when `mask` is joined with
+// it by `O`.
+#[inline(always)]
+fn first_in_lane<O: WordOp>(mask: Block, words: &[Block], start: usize) -> Option<usize>
+    requires { start + 4 ≤ length words.now }
+    ensures found { IfSome result (IsNextOne (map (O.joined mask) words.now) start) }
+    ensures near { IfSome result (λ at. at < start + 4) }
+    ensures none { IfNone result ((i : ℕ) → start ≤ i → i < start + 4
+        → slice_index (map (O.joined mask) words.now) i ≡ 0) }
+{
+    let rest = &words[start..];
+    for at in 0..LANE {
+        if O::word(mask, rest[at]) != 0 {
+            return Some(start + at);
+        }
+    }
+    None
+}
+
+// The place of the last of the four words from `start` on that is not 0 when `mask` is joined with
+// it by `O`.
+#[inline(always)]
+fn last_in_lane<O: WordOp>(mask: Block, words: &[Block], start: usize) -> Option<usize>
+    requires { start + 4 ≤ length words.now }
+    ensures found { IfSome result (IsPreviousOne (map (O.joined mask) words.now) (start + 4)) }
+    ensures near { IfSome result (λ at. start ≤ at) }
+    ensures none { IfNone result ((i : ℕ) → start ≤ i → i < start + 4
+        → slice_index (map (O.joined mask) words.now) i ≡ 0) }
+{
+    let four = &words[start..start + LANE];
+    for at in (0..LANE).rev() {
+        if O::word(mask, four[at]) != 0 {
+            return Some(start + at);
         }
     }
     None

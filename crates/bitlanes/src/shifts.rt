@@ -84,11 +84,17 @@ pub fn down(words: &mut [Block], by: usize, steps: &mut Steps)
         let moved = window_lane(words, first + LANE * lane, shift);
         join_lane::<Second>(words, LANE * lane, moved);
     }
-    for at in LANE * lanes..kept {
-        if at % LANE == 0 {
-            steps.tick();
+    let start = first + LANE * lanes;
+    if start < words.len() {
+        steps.tick();
+        let mut low = words[start];
+        for at in start + 1..words.len() {
+            let high = words[at];
+            words[at - 1 - first] = straddle_word(shift, low, high);
+            low = high;
         }
-        words[at] = window_word(words, first + at, shift);
+        // The last word that is written has no word above it.
+        words[kept - 1] = low >> shift;
     }
 }
 
@@ -131,9 +137,12 @@ pub fn up<O: WordOp>(words: &mut [Block], by: usize, steps: &mut Steps)
     let rest = behind % LANE;
     if rest > 0 {
         steps.tick();
-    }
-    for at in (first..first + rest).rev() {
-        words[at] = O::word(words[at], window_word(words, at - first, shift));
+        let mut high = words[rest];
+        for at in (0..rest).rev() {
+            let low = words[at];
+            words[first + at] = O::word(words[first + at], straddle_word(shift, low, high));
+            high = low;
+        }
     }
     if shift > 0 {
         steps.tick();
@@ -169,10 +178,11 @@ fn window_lane(words: &[Block], at: usize, shift: usize) -> u64x4
     ensures words { (k : ℕ) → k < 4 → slice_index result k
         ≡ straddle shift (slice_index words.now (at + k)) (slice_index words.now (at + k + 1)) }
 {
+    let five = &words[at..at + 5];
     straddle_lane(
         shift,
-        u64x4::from_slice(&words[at..at + 4]),
-        u64x4::from_slice(&words[at + 1..at + 5]),
+        u64x4::from_slice(five),
+        u64x4::from_slice(&five[1..]),
     )
 }
 
@@ -198,12 +208,12 @@ fn window_word(words: &[Block], at: usize, shift: usize) -> Block
     requires within { at < length words.now }
     ensures { result ≡ straddle shift (slice_index words.now at) (slice_index words.now (at + 1)) }
 {
-    let high = if at + 1 < words.len() {
-        words[at + 1]
+    let low = words[at] >> shift;
+    if at < words.len() - 1 {
+        low | ((words[at + 1] << 1) << (BITS - 1 - shift))
     } else {
-        0
-    };
-    straddle_word(shift, words[at], high)
+        low
+    }
 }
 
 // The bits from bit `shift` on of a word and the one after it.

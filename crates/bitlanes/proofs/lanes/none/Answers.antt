@@ -10,7 +10,7 @@ pub loop-at-init : goal.loop-at-init
 loop-at-init g c = record { zero = refl; within = omega arith; cost = omega arith }
 
 pub returns-then-not-is_zero-clause-stops : goal.returns-then-not-is_zero-clause-stops
-returns-then-not-is_zero-clause-stops g c = λ _. omega (arith, c.tick.ensures, c.loop-at.invariant.cost)
+returns-then-not-is_zero-clause-stops g c = λ _. omega (arith, c.tick-in-loop-at.ensures, c.loop-at.invariant.cost)
 
 pub returns-then-not-is_zero-clause-zero : goal.returns-then-not-is_zero-clause-zero
 returns-then-not-is_zero-clause-zero g c =
@@ -18,7 +18,7 @@ returns-then-not-is_zero-clause-zero g c =
     let cut = cut_joined f c.min-common.result c.args.a.now c.args.b.now c.min-common.ensures in
     grind (
       arith,
-      rw cut at c.lane_at.ensures,
+      rw cut at c.lane_at-in-loop-at.ensures,
       fails_within (λ (word : ℕ). word == 0) c.loop-at.at 4 (zip2 f c.args.a.now c.args.b.now),
     )
 
@@ -38,8 +38,8 @@ returns-then-not-is_zero-clause-exact_if_stopped g c =
     let f = g.O.WordOp.joined in
     let cut = cut_joined f c.min-common.result c.args.a.now c.args.b.now c.min-common.ensures in
     stops_in_lane c.args.steps.now c.loop-at.steps c.loop-at.at (zip2 f c.args.a.now c.args.b.now) _
-    c.loop-at.invariant.cost (rw cut at c.loop-at.invariant.zero) (rw cut at c.lane_at.ensures)
-    (sym c.is_zero.ensures ∙ c.if-not-is_zero.true) _ c.tick.ensures
+    c.loop-at.invariant.cost (rw cut at c.loop-at.invariant.zero) (rw cut at c.lane_at-in-loop-at.ensures)
+    (sym c.is_zero-in-loop-at.ensures ∙ c.if-not-is_zero.true) _ c.tick-in-loop-at.ensures
 
 pub returns-then-rest-gt0-clause-exact_if_stopped : goal.returns-then-rest-gt0-clause-exact_if_stopped
 returns-then-rest-gt0-clause-exact_if_stopped g c =

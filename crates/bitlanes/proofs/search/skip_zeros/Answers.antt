@@ -1,6 +1,8 @@
-use Rattle.std.proofs.Common.{map, sym, ◌∙◌, arith, rules}
-use Rattle.bitlanes.proofs.Folding.{zero_in_lane, zero_in_stretch}
+use Rattle.std.proofs.Common.{◌≤◌, ◌-◌, ◌==◌, map, length, refl, sym, ap, ◌∙◌, arith}
+use Rattle.std.specs.List.{list_all}
+use Rattle.bitlanes.proofs.Folding.{zero_in_lane, zero_in_stretch, lane_of_rest, length_left, rest_left}
 use Rattle.bitlanes.proofs.search.skip_zeros.Goals as goal
+use Rattle.bitlanes.proofs.search.skip_zeros.Goals.{then-loop-rest-test+else-is_zero, else-loop-rest-test}
 
 pub loop-start-init : goal.loop-start-init
 loop-start-init g c =
@@ -27,13 +29,35 @@ loop-start-preserved g c =
       cost = omega (arith, before.cost, before.after, c.tick_four.ensures);
     }
 
-pub loop-start-2-preserved : goal.loop-start-2-preserved
-loop-start-2-preserved g c = record {
-  after = omega arith;
-  within = omega arith;
-  zeros = λ i from below. grind (arith, c.loop-start-2.invariant.zeros i, zero_in_lane);
-  cost = omega arith;
-}
+pub loop-rest-preserved : goal.loop-rest-preserved
+loop-rest-preserved g c =
+    let before = c.loop-rest.invariant in
+    let ws = c.args.words.now in
+    let rest = c.loop-rest.rest.now in
+    let f = g.O.WordOp.joined c.args.mask in
+    let four : 4 ≤ length rest = omega (arith, c.loop-rest-test.true) in
+    let left = length_left ws rest _ refl four before.same before.within in
+    let zero = sym (ap (list_all (λ w. w == 0)) (lane_of_rest f (length ws - length rest) ws rest before.same))
+    ∙ (sym (c.is_zero.ensures ∙ ap (list_all (λ w. w == 0)) c.masked_lane_at.ensures) ∙ c.if-is_zero.true) in
+    record {
+      same = rest_left ws rest _ refl four before.same before.within;
+      within = omega (arith, left, before.within);
+      after = omega (arith, left, before.after, before.within);
+      zeros = λ i from below.
+          grind (arith, before.zeros i from, left, zero_in_lane (length ws - length rest) (map f ws) zero i);
+      cost = omega (arith, left, before.cost, before.after, before.within, c.tick.ensures);
+    }
 
-pub returns-after-loop-start-2-clause-stop : goal.returns-after-loop-start-2-clause-stop
-returns-after-loop-start-2-clause-stop g c = search rules steps 300000
+pub returns-clause-stop : goal.returns-clause-stop
+returns-clause-stop g c more =
+    let before = c.loop-rest.invariant in
+    let ws = c.args.words.now in
+    let rest = c.loop-rest.rest.now in
+    let f = g.O.WordOp.joined c.args.mask in
+    elim c.loop-rest-test.branch [
+      | then-loop-rest-test+else-is_zero w ↦
+          sym (ap (list_all (λ w. w == 0)) (lane_of_rest f (length ws - length rest) ws rest before.same))
+          ∙ sym (w.is_zero.ensures ∙ ap (list_all (λ w. w == 0)) w.masked_lane_at.ensures)
+          ∙ w.if-is_zero.false
+      | else-loop-rest-test w ↦ absurd (omega (arith, w.loop-rest-test.false, more, before.within))
+    ]

@@ -1,5 +1,6 @@
-use Rattle.std.proofs.Common.{◌-◌, map, sym, ◌∙◌, arith}
-use Rattle.bitlanes.proofs.Folding.{zero_in_lane, zero_in_stretch}
+use Rattle.std.proofs.Common.{◌-◌, ◌==◌, map, sym, ap, ◌∙◌, arith}
+use Rattle.std.specs.List.{list_all}
+use Rattle.bitlanes.proofs.Folding.{zero_in_lane, zero_in_stretch, lane_of_front}
 use Rattle.bitlanes.proofs.search.skip_zeros_back.Goals as goal
 
 pub loop-end-init : goal.loop-end-init
@@ -21,8 +22,24 @@ loop-end-preserved g c =
     }
 
 pub loop-end-2-preserved : goal.loop-end-2-preserved
-loop-end-2-preserved g c = record {
-  within = omega arith;
-  zeros = λ i from below. grind (arith, c.loop-end-2.invariant.zeros i, zero_in_lane);
-  cost = omega arith;
-}
+loop-end-2-preserved g c =
+    let before = c.loop-end-2.invariant in
+    let ws = c.args.words.now in
+    let end = c.loop-end-2.end in
+    let f = g.O.WordOp.joined c.args.mask in
+    let front = lane_of_front f (end - 4) end ws (omega (arith, c.loop-end-2-test.true)) in
+    let zero = sym (ap (list_all (λ w. w == 0)) front)
+    ∙ (sym (c.is_zero.ensures ∙ ap (list_all (λ w. w == 0)) c.masked_lane_at.ensures) ∙ c.if-is_zero.true) in
+    record {
+      within = omega (arith, before.within);
+      zeros = λ i from below. grind (arith, before.zeros i, zero_in_lane (end - 4) (map f ws) zero i);
+      cost = omega (arith, before.cost, before.within, c.loop-end-2-test.true, c.tick.ensures);
+    }
+
+pub returns-else-is_zero-clause-stop : goal.returns-else-is_zero-clause-stop
+returns-else-is_zero-clause-stop g c some =
+    let end = c.loop-end-2.end in
+    let f = g.O.WordOp.joined c.args.mask in
+    sym (ap (list_all (λ w. w == 0)) (lane_of_front f (end - 4) end c.args.words.now (omega (arith, some))))
+    ∙ sym (c.is_zero.ensures ∙ ap (list_all (λ w. w == 0)) c.masked_lane_at.ensures)
+    ∙ c.if-is_zero.false

@@ -62,7 +62,13 @@ pub fn apply<O: WordOp>(dst: &mut [Block], src: &[Block], steps: &mut Steps) {
 #[inline(always)]
 pub fn count<O: WordOp>(a: &[Block], b: &[Block], steps: &mut Steps) -> usize {
     let words = a.len().min(b.len());
-    if words < LONG {
+    if words < LANE {
+        count_from::<O>(a, b, 0, 0, words, steps)
+    } else if words == LANE {
+        // A single lane is counted by itself.
+        steps.tick();
+        ones_in(lane_at::<O>(a, b, 0).to_array())
+    } else if words < LONG {
         count_from::<O>(a, b, 0, 0, words, steps)
     } else {
         count_long::<O>(a, b, steps)
@@ -83,6 +89,11 @@ pub fn count<O: WordOp>(a: &[Block], b: &[Block], steps: &mut Steps) -> usize {
 pub fn none<O: WordOp>(a: &[Block], b: &[Block], steps: &mut Steps) -> bool {
     let common = a.len().min(b.len());
     let (a, b) = (&a[..common], &b[..common]);
+    // A single lane is asked by itself.
+    if common == LANE {
+        steps.tick();
+        return is_zero(lane_at::<O>(a, b, 0));
+    }
     let mut at = 0;
     while common - at >= LANE {
         steps.tick();

@@ -27,7 +27,17 @@ const FOUR: usize = 4 * LANE;
 /// ```
 #[inline(always)]
 pub fn first_one(words: &[Block], steps: &mut Steps) -> Option<usize> {
-    next_one::<And>(Block::MAX, words, 0, steps)
+    // Four words or fewer are looked at one by one at once.
+    let start = if words.len() > LANE {
+        skip_zeros::<And>(Block::MAX, words, 0, steps)
+    } else {
+        0
+    };
+    if words.len() - start >= LANE {
+        steps.tick();
+        return first_in_lane::<And>(Block::MAX, words, start);
+    }
+    next_one::<And>(Block::MAX, words, start, steps)
 }
 
 /// The place of the last word that is not 0, or `None` where each word is 0.
@@ -43,7 +53,17 @@ pub fn first_one(words: &[Block], steps: &mut Steps) -> Option<usize> {
 /// ```
 #[inline(always)]
 pub fn last_one(words: &[Block], steps: &mut Steps) -> Option<usize> {
-    previous_one::<And>(Block::MAX, words, words.len(), steps)
+    // Four words or fewer are looked at one by one at once.
+    let end = if words.len() > LANE {
+        skip_zeros_back::<And>(Block::MAX, words, words.len(), steps)
+    } else {
+        words.len()
+    };
+    if end >= LANE {
+        steps.tick();
+        return last_in_lane::<And>(Block::MAX, words, end - LANE);
+    }
+    previous_one::<And>(Block::MAX, words, end, steps)
 }
 
 /// The place of the first word, from place `from` on, that is not 0 when `mask` is joined with it
@@ -65,6 +85,11 @@ pub fn next_one<O: WordOp>(
 ) -> Option<usize> {
     // Four words or fewer are looked at one by one at once.
     let start = if words.len() - from > LANE {
+        // The first word is looked at by itself: in a loop of such calls it mostly is the one.
+        if O::word(mask, words[from]) != 0 {
+            steps.tick();
+            return Some(from);
+        }
         skip_zeros::<O>(mask, words, from, steps)
     } else {
         from
@@ -100,11 +125,12 @@ pub fn skip_zeros<O: WordOp>(mask: Block, words: &[Block], from: usize, steps: &
         tick_four(steps);
         start += FOUR;
     }
-    while words.len() - start >= LANE && is_zero(masked_lane_at::<O>(mask, words, start)) {
+    let mut rest = &words[start..];
+    while rest.len() >= LANE && is_zero(masked_lane_at::<O>(mask, rest, 0)) {
         steps.tick();
-        start += LANE;
+        rest = &rest[LANE..];
     }
-    start
+    words.len() - rest.len()
 }
 
 /// The place of the last word, below place `below`, that is not 0 when `mask` is joined with it by
@@ -143,7 +169,8 @@ pub fn previous_one<O: WordOp>(
 }
 
 // The place, a multiple of four words before `below`, from which on each word below that is 0 when
-// `mask` is joined with it by `O`. It stops where four words or fewer are left.
+// `mask` is joined with it by `O`. It stops where one of the four words before it is not, or where
+// four words or fewer are left.
 #[inline(always)]
 fn skip_zeros_back<O: WordOp>(
     mask: Block,
@@ -156,7 +183,7 @@ fn skip_zeros_back<O: WordOp>(
         tick_four(steps);
         end -= FOUR;
     }
-    while end > LANE && is_zero(masked_lane_at::<O>(mask, words, end - LANE)) {
+    while end > LANE && is_zero(masked_lane_at::<O>(mask, &words[..end], end - LANE)) {
         steps.tick();
         end -= LANE;
     }
@@ -185,6 +212,32 @@ pub fn first_joined<O: WordOp>(a: &[Block], b: &[Block], steps: &mut Steps) -> O
         }
         if word_at::<O>(a, b, at) != 0 {
             return Some(at);
+        }
+    }
+    None
+}
+
+// The place of the first of the four words from `start` on that is not 0 when `mask` is joined with
+// it by `O`.
+#[inline(always)]
+fn first_in_lane<O: WordOp>(mask: Block, words: &[Block], start: usize) -> Option<usize> {
+    let rest = &words[start..];
+    for at in 0..LANE {
+        if O::word(mask, rest[at]) != 0 {
+            return Some(start + at);
+        }
+    }
+    None
+}
+
+// The place of the last of the four words from `start` on that is not 0 when `mask` is joined with
+// it by `O`.
+#[inline(always)]
+fn last_in_lane<O: WordOp>(mask: Block, words: &[Block], start: usize) -> Option<usize> {
+    let four = &words[start..start + LANE];
+    for at in (0..LANE).rev() {
+        if O::word(mask, four[at]) != 0 {
+            return Some(start + at);
         }
     }
     None

@@ -65,11 +65,17 @@ pub fn down(words: &mut [Block], by: usize, steps: &mut Steps) {
         let moved = window_lane(words, first + LANE * lane, shift);
         join_lane::<Second>(words, LANE * lane, moved);
     }
-    for at in LANE * lanes..kept {
-        if at % LANE == 0 {
-            steps.tick();
+    let start = first + LANE * lanes;
+    if start < words.len() {
+        steps.tick();
+        let mut low = words[start];
+        for at in start + 1..words.len() {
+            let high = words[at];
+            words[at - 1 - first] = straddle_word(shift, low, high);
+            low = high;
         }
-        words[at] = window_word(words, first + at, shift);
+        // The last word that is written has no word above it.
+        words[kept - 1] = low >> shift;
     }
 }
 
@@ -102,9 +108,12 @@ pub fn up<O: WordOp>(words: &mut [Block], by: usize, steps: &mut Steps) {
     let rest = behind % LANE;
     if rest > 0 {
         steps.tick();
-    }
-    for at in (first..first + rest).rev() {
-        words[at] = O::word(words[at], window_word(words, at - first, shift));
+        let mut high = words[rest];
+        for at in (0..rest).rev() {
+            let low = words[at];
+            words[first + at] = O::word(words[first + at], straddle_word(shift, low, high));
+            high = low;
+        }
     }
     if shift > 0 {
         steps.tick();
@@ -131,10 +140,11 @@ pub fn word_from(words: &[Block], from: usize) -> Block {
 // The four moved words from `at` on.
 #[inline(always)]
 fn window_lane(words: &[Block], at: usize, shift: usize) -> u64x4 {
+    let five = &words[at..at + 5];
     straddle_lane(
         shift,
-        u64x4::from_slice(&words[at..at + 4]),
-        u64x4::from_slice(&words[at + 1..at + 5]),
+        u64x4::from_slice(five),
+        u64x4::from_slice(&five[1..]),
     )
 }
 
@@ -149,12 +159,12 @@ fn straddle_lane(shift: usize, low: u64x4, high: u64x4) -> u64x4 {
 // The moved word at `at`.
 #[inline(always)]
 fn window_word(words: &[Block], at: usize, shift: usize) -> Block {
-    let high = if at + 1 < words.len() {
-        words[at + 1]
+    let low = words[at] >> shift;
+    if at < words.len() - 1 {
+        low | ((words[at + 1] << 1) << (BITS - 1 - shift))
     } else {
-        0
-    };
-    straddle_word(shift, words[at], high)
+        low
+    }
 }
 
 // The bits from bit `shift` on of a word and the one after it.
