@@ -18,7 +18,7 @@ ghost use Rattle.bitlanes.specs.Search.{IsFirstOne};
 ghost use Rattle.bitlanes.specs.Words.{zip_longest, filled, lane_steps};
 
 use crate::carries::{EIGHT, count_eights};
-use crate::ops::{And, WordOp};
+use crate::ops::{Second, WordOp};
 use crate::{Block, Steps};
 use std::simd::prelude::*;
 
@@ -168,13 +168,15 @@ pub fn zero(dst: &mut [Block], steps: &mut Steps)
 /// assert_eq!(rt; count, 4);
 /// ```
 #[inline(always)]
-#[tactic(auto, using(crate::proofs::Zipping::joined_with_itself))]
+#[tactic(auto, using(crate::proofs::Zipping::second_of_itself))]
 pub fn count_one(a: &[Block], steps: &mut Steps) -> usize
     requires fits { sum_by count_ones a.now < 2 ^ 64 }
     ensures ones { result ≡ sum_by count_ones a.now }
     ensures cost { steps.new ≡ steps.old + lane_steps (length a.now) }
 {
-    count::<And>(a, a, steps)
+    // The count of a long row is a call that does not know that both rows are one: it reads this one
+    // once.
+    count::<Second>(a, a, steps)
 }
 
 /// Whether no bit is set in the words.
@@ -326,12 +328,15 @@ fn count_from<O: WordOp>(
 // its own, so that short rows save no registers for it.
 #[cold]
 #[inline(never)]
+#[tactic(auto, using(crate::proofs::Zipping::cut_joined))]
 fn count_long<O: WordOp>(a: &[Block], b: &[Block], steps: &mut Steps) -> usize
     requires fits { sum_by count_ones (zip2 O.joined a.now b.now) < 2 ^ 64 }
     ensures ones { result ≡ sum_by count_ones (zip2 O.joined a.now b.now) }
     ensures cost { steps.new ≡ steps.old + lane_steps (min (length a.now) (length b.now)) }
 {
     let words = a.len().min(b.len());
+    // Of one length, so that no read in a loop tests a bound.
+    let (a, b) = (&a[..words], &b[..words]);
     let blocks = words / EIGHT;
     let total = count_eights::<O>(a, b, blocks, steps);
     count_from::<O>(a, b, 8 * blocks, total, words, steps)

@@ -3,22 +3,20 @@ use Rattle.std.specs.Simd.Lanes.{zip2}
 use Rattle.bitlanes.proofs.Counting.{ones_cut, sum_eight, sum_eight_le}
 use Rattle.bitlanes.proofs.carries.count_eights.Goals as goal
 
-pub overflow_add-eights : goal.overflow_add-eights
-overflow_add-eights g c =
+pub add_ones-requires : goal.add_ones-requires
+add_ones-requires g c =
     let f = g.O.WordOp.joined in
     let at : ℕ = 32 * c.loop-block.block in
     let long : at + 32 - at ≡ 32 = omega arith in
     let all = zip2 f c.args.a.now c.args.b.now in
     let ones = rw (long, ones_cut f at 32 c.args.a.now c.args.b.now) at c.add_eight-carries.ensures.ones in
-    record {
-      fits =
-          omega (
-            arith,
-            ones,
-            c.requires.fits,
-            sum_eight_le count_ones c.loop-block.block c.args.blocks all (omega arith),
-          );
-    }
+    omega (
+      arith,
+      ones,
+      c.loop-block.invariant.ones,
+      c.requires.fits,
+      sum_eight_le count_ones c.loop-block.block c.args.blocks all (omega arith),
+    )
 
 pub loop-block-preserved : goal.loop-block-preserved
 loop-block-preserved g c =
@@ -31,7 +29,7 @@ loop-block-preserved g c =
           omega (
             arith,
             ones,
-            c.ones_in-eights.ensures,
+            c.add_ones.ensures,
             c.loop-block.invariant.ones,
             sum_eight count_ones c.loop-block.block (zip2 f c.args.a.now c.args.b.now),
           );

@@ -4,8 +4,8 @@
 //!
 //! Three lanes added bit by bit make a lane of sums and a lane of carries, and a carry stands for
 //! two ones. So two lanes and a sum make a new sum and a lane of twos, four lanes make a lane of
-//! fours, and eight lanes a lane of eights. Of eight lanes only the lane of eights is counted. The
-//! ones, twos and fours that are left are counted once, at the end.
+//! fours, and eight lanes a lane of eights. Of eight lanes only the lane of eights is counted, word
+//! by word of it. The ones, twos and fours that are left are counted once, at the end.
 
 use crate::proved::bitlanes::lanes::{LANE, lane_at, ones_in};
 use crate::proved::bitlanes::ops::WordOp;
@@ -24,14 +24,47 @@ pub(crate) fn count_eights<O: WordOp>(
     steps: &mut Steps,
 ) -> usize {
     let mut sums = Sums::new();
-    let mut eights = 0;
+    let mut eights = Counts {
+        first: 0,
+        second: 0,
+        third: 0,
+        fourth: 0,
+    };
     for block in 0..blocks {
         let at = EIGHT * block;
         let (a, b) = (&a[at..at + EIGHT], &b[at..at + EIGHT]);
         let carries = sums.add_eight::<O>(a, b, 0, steps);
-        eights += ones_in(carries.to_array());
+        eights.add_ones(carries.to_array());
     }
-    8 * eights + sums.count()
+    8 * eights.total() + sums.count()
+}
+
+// Counts of bits, one for each word of a lane: they are a lane too where the processor counts the
+// bits of four words at once. A caller sees their sum.
+#[derive(Clone)]
+struct Counts {
+    first: usize,
+    second: usize,
+    third: usize,
+    fourth: usize,
+}
+
+impl Counts {
+    // Adds how many bits are set in each of four words.
+    #[inline(always)]
+    fn add_ones(&mut self, words: [Block; LANE]) {
+        let [first, second, third, fourth] = words;
+        self.first += first.count_ones() as usize;
+        self.second += second.count_ones() as usize;
+        self.third += third.count_ones() as usize;
+        self.fourth += fourth.count_ones() as usize;
+    }
+
+    // How many bits were counted.
+    #[inline(always)]
+    fn total(&self) -> usize {
+        self.first + self.second + self.third + self.fourth
+    }
 }
 
 // Lanes added bit by bit: of ones, of twos and of fours. A caller sees how
@@ -116,6 +149,6 @@ impl Sums {
 // Adds two lanes to a sum, bit by bit: the new sum, and the carries.
 #[inline(always)]
 fn add(sum: u64x4, left: u64x4, right: u64x4) -> (u64x4, u64x4) {
-    let either = left ^ right;
-    (sum ^ either, (left & right) | (sum & either))
+    let either = sum ^ left;
+    (either ^ right, (sum & left) | (either & right))
 }

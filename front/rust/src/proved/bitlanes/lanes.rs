@@ -11,7 +11,7 @@
 //! Of two slices a kernel reads as many words as the shorter one has.
 
 use crate::proved::bitlanes::carries::{EIGHT, count_eights};
-use crate::proved::bitlanes::ops::{And, WordOp};
+use crate::proved::bitlanes::ops::{Second, WordOp};
 use crate::proved::bitlanes::{Block, Steps};
 use crate::shim::simd::prelude::*;
 
@@ -141,7 +141,9 @@ pub fn zero(dst: &mut [Block], steps: &mut Steps) {
 /// ```
 #[inline(always)]
 pub fn count_one(a: &[Block], steps: &mut Steps) -> usize {
-    count::<And>(a, a, steps)
+    // The count of a long row is a call that does not know that both rows are one: it reads this one
+    // once.
+    count::<Second>(a, a, steps)
 }
 
 /// Whether no bit is set in the words.
@@ -255,6 +257,8 @@ fn count_from<O: WordOp>(
 #[inline(never)]
 fn count_long<O: WordOp>(a: &[Block], b: &[Block], steps: &mut Steps) -> usize {
     let words = a.len().min(b.len());
+    // Of one length, so that no read in a loop tests a bound.
+    let (a, b) = (&a[..words], &b[..words]);
     let blocks = words / EIGHT;
     let total = count_eights::<O>(a, b, blocks, steps);
     count_from::<O>(a, b, 8 * blocks, total, words, steps)
