@@ -1,20 +1,74 @@
--- A set taken out of its place, changed and put back.
-use Rattle.std.proofs.Common.{◌≡◌, ◌≢◌, ℕ, ◌<◌, List, length, get_or, set, ap, ◌∙◌, sym}
+-- A set that a command changes by another one, which is taken out of its place meanwhile, or by itself.
+use Rattle.std.proofs.Common.{◌≡◌, ◌≢◌, ℕ, ◌<◌, ◌≤◌, ◌⊎◌, inl, inr, Bool, true, false, IsTrue, length, get_or, set}
+use Rattle.std.proofs.Common.{None, Result, Ok, Err, MatchOption, ap, ◌∙◌, sym, arith, refl}
+use Rattle.std.specs.Result.{IsErr, IsErrAnd}
+use Rattle.std.proofs.lemmas.Bool.Decides.{nat_tests}
+use Rattle.std.proofs.lemmas.Grind.{common_steps}
 use Rattle.std.proofs.lemmas.List.{set-set, set-get_or, get_or-set_other, get_or_read}
-use Rattle.fixedbitset.specs.Bits.{Bits, empty}
+use Rattle.fixedbitset.specs.Bits.{Bits, empty, words_needed}
+use Rattle.fixedbitset.specs.TwoSetsFacts.{union-same, intersection-same, difference-same, symmetric_difference-same}
+use Rattle.bitcommands.specs.declared.commands.refusals.Refusal.{Refusal}
+use Rattle.bitcommands.specs.declared.commands.refusals.Refusal.TheVariants as refusal
+use Rattle.bitcommands.specs.declared.commands.replies.Reply.{Reply}
+use Rattle.bitcommands.specs.declared.commands.replies.Reply.TheVariants as reply
+use Rattle.bitcommands.specs.Answers as answer
+use Rattle.bitcommands.specs.Guards.{no_sets, needs_more_words}
+use Rattle.bitcommands.specs.Outcomes.{Passes, replied}
+use Rattle.bitcommands.specs.Sets.{Sets, at}
 
-module _ (sets : List Bits) (a : ℕ) (x e new : Bits) (here : x ≡ get_or sets a x) where
-  pub back : new ≡ x → set (set sets a e) a new ≡ sets
-  back h = set-set sets a e new ∙ ap (set sets a) (h ∙ here) ∙ set-get_or sets a x
+-- a function changes set a by set b; where it does not, it returns why, and nothing changes
+abbrev pub Joins : Sets → ℕ → ℕ → (Bits → ℕ → Bool) → (Bits → Bits → Bits) → Result Reply Refusal → Sets → Type 0
+Joins old a b takes_memory join r new = MatchOption (no_sets old a b)
+    (((replied r ≡ answer.done) × (new ≡ set old a (join (at old a) (at old b))))
+    ⊎ ((replied r ≡ answer.refused refusal.Memory)
+    × (IsTrue (takes_memory (at old a) (at old b).length) × (new ≡ old))))
+    (λ f. (replied r ≡ answer.refused f) × (new ≡ old))
 
-  -- what was read while the place was empty is what stood in both places
-  pub changed : (f : Bits → Bits → Bits) (b : ℕ) (y t : Bits) → a < length sets → b < length sets → b ≢ a
-      → y ≡ get_or (set sets a e) b y → t ≡ get_or sets a x
-      → new ≡ f t (get_or (set sets a e) b y)
-      → set (set sets a e) a new ≡ set sets a (f (get_or sets a (empty 0)) (get_or sets b (empty 0)))
-  changed f b y t ina inb apart there taken h =
-      let fst : t ≡ get_or sets a (empty 0) = taken ∙ sym here ∙ get_or_read sets a x ina here (empty 0) in
-      let snd : get_or (set sets a e) b y ≡ get_or sets b (empty 0) = sym there
-      ∙ get_or_read sets b y inb (there ∙ get_or-set_other sets a b e y apart) (empty 0) in
-      set-set sets a e new
-      ∙ ap (set sets a) (h ∙ ap (λ u. f u (get_or (set sets a e) b y)) fst ∙ ap (f (get_or sets a (empty 0))) snd)
+-- what is made of a set and itself is the set, or has no position
+pub ruleset by_itself =
+    (common_steps, set-get_or, union-same, intersection-same, difference-same, symmetric_difference-same)
+
+no_refusal : (old : Sets) (a b : ℕ) (u : Unit {0}) → Passes (Ok u) (no_sets old a b)
+    → (no_sets old a b ≡ None) × (a < length old) × (b < length old)
+no_refusal old a b u passes = grind (arith, nat_tests)
+
+is_memory : (r : Result Reply Refusal) → IsErr r × IsErrAnd r (λ f. f ≡ refusal.Memory) → r ≡ Err refusal.Memory
+is_memory (Ok x) h = absurd h.1
+is_memory (Err f) h = ap Err h.1
+
+module _ (old : Sets) (a b : ℕ) (here there e t : Bits) (u : Unit {0}) (passes : Passes (Ok u) (no_sets old a b))
+    (apart : a ≢ b) (is : here ≡ get_or old a here) (taken : t ≡ get_or old a here)
+    (other : there ≡ get_or (set old a e) b there) where
+  first : t ≡ at old a
+  first = taken ∙ sym is ∙ get_or_read old a here (no_refusal old a b u passes).1 is (empty 0)
+
+  -- what was read while the place was empty is what stood there before
+  second : get_or (set old a e) b there ≡ at old b
+  second =
+      sym other ∙ get_or_read old b there (no_refusal old a b u passes).2
+      (other ∙ get_or-set_other old a b e there (λ same. apart (sym same))) (empty 0)
+
+  pub changed : (takes_memory : Bits → ℕ → Bool) (join : Bits → Bits → Bits) (new : Bits)
+      → new ≡ join t (get_or (set old a e) b there)
+      → Joins old a b takes_memory join (Ok reply.Done) (set (set old a e) a new)
+  changed takes_memory join new h =
+      rw (no_refusal old a b u passes).0
+      (inl (
+        refl,
+        set-set old a e new
+            ∙ ap (set old a) (h ∙ ap (λ v. join v (get_or (set old a e) b there)) first ∙ ap (join (at old a)) second),
+      ))
+
+  pub stopped : (join : Bits → Bits → Bits) (new : Bits) (r : Result Reply Refusal)
+      → IsErr r × IsErrAnd r (λ f. f ≡ refusal.Memory) → new ≡ t
+      → (words_needed (get_or (set old a e) b there).length ≤ words_needed t.length → false ≡ true)
+      → Joins old a b needs_more_words join r (set (set old a e) a new)
+  stopped join new r memory kept lacks =
+      rw ((no_refusal old a b u passes).0, is_memory r memory)
+      (inr (
+        refl,
+        (
+          grind (arith, nat_tests, first, second, lacks),
+          set-set old a e new ∙ ap (set old a) (kept ∙ first) ∙ set-get_or old a (empty 0),
+        ),
+      ))

@@ -13,5 +13,4 @@ pub mod Outcomes
 pub mod TextsFacts
 -- private
 pub mod OneCall
-pub mod Joints
 pub mod Quoting

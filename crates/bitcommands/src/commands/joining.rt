@@ -1,14 +1,12 @@
 //! Commands that change one set by another one, or by itself.
-ghost use Rattle.std.specs.Prelude.{◌≡◌, ◌<◌, length, IsTrue, OnOk, OnErr, slice_set};
+ghost use Rattle.bitcommands.specs.Actions as action;
 ghost use Rattle.bitcommands.specs.Actions.{whole_action};
-ghost use Rattle.bitcommands.specs.Joints.{combination, joint_may_lack_memory, Joins};
-ghost use Rattle.bitcommands.specs.Sets.{at};
-ghost use Rattle.bitcommands.specs.Outcomes.{Answers};
+ghost use Rattle.bitcommands.specs.Outcomes.{Answers, AnswersAlways};
 
 use crate::commands::refusals::{Refusal, check_sets};
 use crate::commands::replies::Reply;
 use fixedbitset::FixedBitSet;
-use std::alloc::{AllocError, Global};
+use std::alloc::Global;
 use std::mem;
 
 /// A command that changes the set `a` by the set `b`, which may be the same.
@@ -39,97 +37,87 @@ pub(super) fn apply_whole(
     ensures { Answers limit sets.old (whole_action command.now) result sets.new }
 {
     match command {
-        Whole::UnionWith { a, b } => join(alloc, sets, *a, *b, Joint::Union),
-        Whole::SymmetricDifferenceWith { a, b } => {
-            join(alloc, sets, *a, *b, Joint::SymmetricDifference)
-        }
-        Whole::BitorAssign { a, b } => join(alloc, sets, *a, *b, Joint::Union),
-        Whole::BitxorAssign { a, b } => join(alloc, sets, *a, *b, Joint::SymmetricDifference),
-        Whole::IntersectWith { a, b } => join(alloc, sets, *a, *b, Joint::Intersection),
-        Whole::DifferenceWith { a, b } => join(alloc, sets, *a, *b, Joint::Difference),
-        Whole::BitandAssign { a, b } => join(alloc, sets, *a, *b, Joint::Intersection),
+        Whole::UnionWith { a, b } => union_with(alloc, sets, *a, *b),
+        Whole::SymmetricDifferenceWith { a, b } => symmetric_difference_with(alloc, sets, *a, *b),
+        Whole::BitorAssign { a, b } => union_with(alloc, sets, *a, *b),
+        Whole::BitxorAssign { a, b } => symmetric_difference_with(alloc, sets, *a, *b),
+        Whole::IntersectWith { a, b } => intersect_with(alloc, sets, *a, *b),
+        Whole::DifferenceWith { a, b } => difference_with(alloc, sets, *a, *b),
+        Whole::BitandAssign { a, b } => intersect_with(alloc, sets, *a, *b),
     }
 }
 
-// What is made of a set and another one.
-#[derive(Drop)]
-pub(super) enum Joint {
-    Union,
-    SymmetricDifference,
-    Intersection,
-    Difference,
-    /// The other one itself.
-    Copy,
-}
-
-// Changes the set `target` by the set `other`, which may be the same, if there are both.
-pub(super) fn join(
-    alloc: Global,
-    sets: &mut [FixedBitSet],
-    target: usize,
-    other: usize,
-    joint: Joint,
-) -> Result<Reply, Refusal>
-    ensures { Joins sets.old joint target other result sets.new }
+#[tactic(auto, using(crate::proofs::TakenOut::by_itself))]
+fn union_with(alloc: Global, sets: &mut [FixedBitSet], a: usize, b: usize) -> Result<Reply, Refusal>
+    ensures { AnswersAlways sets.old (action.union_with a b) result sets.new }
 {
-    check_sets(sets, target, other)?;
-    join_sets(alloc, sets, target, other, joint)?;
+    check_sets(sets, a, b)?;
+    if a == b {
+        return Ok(Reply::Done);
+    }
+    let mut taken = mem::replace(&mut sets[a], FixedBitSet::new(alloc));
+    let result = taken.union_with(&sets[b]);
+    sets[a] = taken;
+    result?;
     Ok(Reply::Done)
 }
 
-// The same, where there are both. No copy of a set is made.
-fn join_sets(
+#[tactic(auto, using(crate::proofs::TakenOut::by_itself))]
+fn symmetric_difference_with(
     alloc: Global,
     sets: &mut [FixedBitSet],
-    target: usize,
-    other: usize,
-    joint: Joint,
-) -> Result<(), AllocError>
-    requires first { target < length sets.old }
-    requires second { other < length sets.old }
-    ensures ok { OnOk result (sets.new
-        ≡ slice_set sets.old target (combination joint (at sets.old target) (at sets.old other))) }
-    ensures err { OnErr result (sets.new ≡ sets.old) }
-    ensures lacks { OnErr result
-        (IsTrue (joint_may_lack_memory joint (at sets.old target) (at sets.old other))) }
+    a: usize,
+    b: usize,
+) -> Result<Reply, Refusal>
+    ensures { AnswersAlways sets.old (action.symmetric_difference_with a b) result sets.new }
 {
-    if target == other {
-        with_itself(&mut sets[target], &joint);
-        return Ok(());
+    check_sets(sets, a, b)?;
+    if a == b {
+        sets[a].clear();
+        return Ok(Reply::Done);
     }
-    let mut taken = mem::replace(&mut sets[target], FixedBitSet::new(alloc));
-    let result = combine(&mut taken, &sets[other], &joint);
-    sets[target] = taken;
-    result
+    let mut taken = mem::replace(&mut sets[a], FixedBitSet::new(alloc));
+    let result = taken.symmetric_difference_with(&sets[b]);
+    sets[a] = taken;
+    result?;
+    Ok(Reply::Done)
 }
 
-fn combine(target: &mut FixedBitSet, other: &FixedBitSet, joint: &Joint) -> Result<(), AllocError>
-    ensures ok { OnOk result (target.new ≡ combination joint.now target.old other.now) }
-    ensures err { OnErr result (target.new ≡ target.old) }
-    ensures lacks { OnErr result (IsTrue (joint_may_lack_memory joint.now target.old other.now)) }
+#[tactic(auto, using(crate::proofs::TakenOut::by_itself))]
+fn intersect_with(
+    alloc: Global,
+    sets: &mut [FixedBitSet],
+    a: usize,
+    b: usize,
+) -> Result<Reply, Refusal>
+    ensures { AnswersAlways sets.old (action.intersect_with a b) result sets.new }
 {
-    match joint {
-        Joint::Union => target.union_with(other),
-        Joint::SymmetricDifference => target.symmetric_difference_with(other),
-        Joint::Intersection => {
-            target.intersect_with(other);
-            Ok(())
-        }
-        Joint::Difference => {
-            target.difference_with(other);
-            Ok(())
-        }
-        Joint::Copy => target.clone_from(other),
+    check_sets(sets, a, b)?;
+    if a == b {
+        return Ok(Reply::Done);
     }
+    let mut taken = mem::replace(&mut sets[a], FixedBitSet::new(alloc));
+    taken.intersect_with(&sets[b]);
+    sets[a] = taken;
+    Ok(Reply::Done)
 }
 
-// A set combined with itself stays as it is, or becomes clear.
-#[tactic(auto, using(crate::proofs::JoinedWithItself::same_union, crate::proofs::JoinedWithItself::same_intersection, crate::proofs::JoinedWithItself::same_symmetric_difference, crate::proofs::JoinedWithItself::same_difference))]
-fn with_itself(target: &mut FixedBitSet, joint: &Joint)
-    ensures { target.new ≡ combination joint.now target.old target.old }
+#[tactic(auto, using(crate::proofs::TakenOut::by_itself))]
+fn difference_with(
+    alloc: Global,
+    sets: &mut [FixedBitSet],
+    a: usize,
+    b: usize,
+) -> Result<Reply, Refusal>
+    ensures { AnswersAlways sets.old (action.difference_with a b) result sets.new }
 {
-    match joint {
-        Joint::Union | Joint::Intersection | Joint::Copy => {}
-        Joint::SymmetricDifference | Joint::Difference => target.remove_range(..),
+    check_sets(sets, a, b)?;
+    if a == b {
+        sets[a].clear();
+        return Ok(Reply::Done);
     }
+    let mut taken = mem::replace(&mut sets[a], FixedBitSet::new(alloc));
+    taken.difference_with(&sets[b]);
+    sets[a] = taken;
+    Ok(Reply::Done)
 }

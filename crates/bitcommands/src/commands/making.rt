@@ -8,7 +8,6 @@ ghost use Rattle.bitcommands.specs.declared.commands.refusals.Refusal.TheVariant
 ghost use Rattle.bitcommands.specs.declared.commands.replies.Reply.TheVariants.{Done};
 ghost use Rattle.bitcommands.specs.Outcomes.{Answers, AnswersAlways};
 
-use crate::commands::joining::{Joint, join};
 use crate::commands::refusals::{
     Refusal, check_items, check_length, check_set, check_sets, check_value, sets_at,
 };
@@ -16,6 +15,7 @@ use crate::commands::replies::Reply;
 use fixedbitset::{Block, FixedBitSet};
 use serde_json::Value;
 use std::alloc::{AllocError, Global};
+use std::mem;
 
 /// A command that puts a new value in the place of the set `target`.
 #[derive(Debug, Drop)]
@@ -97,7 +97,7 @@ pub(super) fn apply_make(
             blocks,
         } => with_capacity_and_blocks(alloc, sets, *target, *bits, blocks.as_slice(), limit),
         Make::Clone { target, source } => clone(sets, *target, *source),
-        Make::CloneFrom { target, source } => join(alloc, sets, *target, *source, Joint::Copy),
+        Make::CloneFrom { target, source } => clone_from(alloc, sets, *target, *source),
         Make::FromIter { target, items } => {
             from_iter(alloc, sets, *target, items.as_slice(), limit)
         }
@@ -164,6 +164,27 @@ fn clone(sets: &mut [FixedBitSet], target: usize, source: usize) -> Result<Reply
     check_sets(sets, target, source)?;
     let made: Result<_, _> = sets[source].clone();
     put(sets, target, made)
+}
+
+// A set that is copied into itself stays as it is.
+#[tactic(auto, using(crate::proofs::TakenOut::by_itself))]
+fn clone_from(
+    alloc: Global,
+    sets: &mut [FixedBitSet],
+    target: usize,
+    source: usize,
+) -> Result<Reply, Refusal>
+    ensures { AnswersAlways sets.old (action.clone_from target source) result sets.new }
+{
+    check_sets(sets, target, source)?;
+    if target == source {
+        return Ok(Reply::Done);
+    }
+    let mut taken = mem::replace(&mut sets[target], FixedBitSet::new(alloc));
+    let result = taken.clone_from(&sets[source]);
+    sets[target] = taken;
+    result?;
+    Ok(Reply::Done)
 }
 
 // Where an item is not taken, the set stays as it was.

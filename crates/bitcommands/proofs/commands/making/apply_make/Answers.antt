@@ -20,7 +20,7 @@ pub returns-in-Clone : goal.returns-in-Clone
 returns-in-Clone c = rw c.in-Clone.is (c.clone.ensures c.args.limit)
 
 pub returns-in-CloneFrom : goal.returns-in-CloneFrom
-returns-in-CloneFrom c = rw c.in-CloneFrom.is c.join.ensures
+returns-in-CloneFrom c = rw c.in-CloneFrom.is (c.clone_from.ensures c.args.limit)
 
 pub returns-in-New : goal.returns-in-New
 returns-in-New c = rw c.in-New.is (c.new.ensures c.args.limit)

@@ -4,7 +4,7 @@
 use crate::program::bitcommands::commands::refusals::{Refusal, check_sets};
 use crate::program::bitcommands::commands::replies::Reply;
 use crate::program::fixedbitset::FixedBitSet;
-use crate::shim::alloc::{AllocError, Global};
+use crate::shim::alloc::Global;
 use core::mem;
 
 /// A command that changes the set `a` by the set `b`, which may be the same.
@@ -32,79 +32,75 @@ pub(super) fn apply_whole(
     limit: usize,
 ) -> Result<Reply, Refusal> {
     match command {
-        Whole::UnionWith { a, b } => join(alloc, sets, *a, *b, Joint::Union),
-        Whole::SymmetricDifferenceWith { a, b } => {
-            join(alloc, sets, *a, *b, Joint::SymmetricDifference)
-        }
-        Whole::BitorAssign { a, b } => join(alloc, sets, *a, *b, Joint::Union),
-        Whole::BitxorAssign { a, b } => join(alloc, sets, *a, *b, Joint::SymmetricDifference),
-        Whole::IntersectWith { a, b } => join(alloc, sets, *a, *b, Joint::Intersection),
-        Whole::DifferenceWith { a, b } => join(alloc, sets, *a, *b, Joint::Difference),
-        Whole::BitandAssign { a, b } => join(alloc, sets, *a, *b, Joint::Intersection),
+        Whole::UnionWith { a, b } => union_with(alloc, sets, *a, *b),
+        Whole::SymmetricDifferenceWith { a, b } => symmetric_difference_with(alloc, sets, *a, *b),
+        Whole::BitorAssign { a, b } => union_with(alloc, sets, *a, *b),
+        Whole::BitxorAssign { a, b } => symmetric_difference_with(alloc, sets, *a, *b),
+        Whole::IntersectWith { a, b } => intersect_with(alloc, sets, *a, *b),
+        Whole::DifferenceWith { a, b } => difference_with(alloc, sets, *a, *b),
+        Whole::BitandAssign { a, b } => intersect_with(alloc, sets, *a, *b),
     }
 }
 
-// What is made of a set and another one.
-pub(super) enum Joint {
-    Union,
-    SymmetricDifference,
-    Intersection,
-    Difference,
-    /// The other one itself.
-    Copy,
-}
-
-// Changes the set `target` by the set `other`, which may be the same, if there are both.
-pub(super) fn join(
-    alloc: Global,
-    sets: &mut [FixedBitSet],
-    target: usize,
-    other: usize,
-    joint: Joint,
-) -> Result<Reply, Refusal> {
-    check_sets(sets, target, other)?;
-    join_sets(alloc, sets, target, other, joint)?;
+fn union_with(alloc: Global, sets: &mut [FixedBitSet], a: usize, b: usize) -> Result<Reply, Refusal> {
+    check_sets(sets, a, b)?;
+    if a == b {
+        return Ok(Reply::Done);
+    }
+    let mut taken = mem::replace(&mut sets[a], FixedBitSet::new(alloc));
+    let result = taken.union_with(&sets[b]);
+    sets[a] = taken;
+    result?;
     Ok(Reply::Done)
 }
 
-// The same, where there are both. No copy of a set is made.
-fn join_sets(
+fn symmetric_difference_with(
     alloc: Global,
     sets: &mut [FixedBitSet],
-    target: usize,
-    other: usize,
-    joint: Joint,
-) -> Result<(), AllocError> {
-    if target == other {
-        with_itself(&mut sets[target], &joint);
-        return Ok(());
+    a: usize,
+    b: usize,
+) -> Result<Reply, Refusal> {
+    check_sets(sets, a, b)?;
+    if a == b {
+        sets[a].clear();
+        return Ok(Reply::Done);
     }
-    let mut taken = mem::replace(&mut sets[target], FixedBitSet::new(alloc));
-    let result = combine(&mut taken, &sets[other], &joint);
-    sets[target] = taken;
-    result
+    let mut taken = mem::replace(&mut sets[a], FixedBitSet::new(alloc));
+    let result = taken.symmetric_difference_with(&sets[b]);
+    sets[a] = taken;
+    result?;
+    Ok(Reply::Done)
 }
 
-fn combine(target: &mut FixedBitSet, other: &FixedBitSet, joint: &Joint) -> Result<(), AllocError> {
-    match joint {
-        Joint::Union => target.union_with(other),
-        Joint::SymmetricDifference => target.symmetric_difference_with(other),
-        Joint::Intersection => {
-            target.intersect_with(other);
-            Ok(())
-        }
-        Joint::Difference => {
-            target.difference_with(other);
-            Ok(())
-        }
-        Joint::Copy => target.clone_from(other),
+fn intersect_with(
+    alloc: Global,
+    sets: &mut [FixedBitSet],
+    a: usize,
+    b: usize,
+) -> Result<Reply, Refusal> {
+    check_sets(sets, a, b)?;
+    if a == b {
+        return Ok(Reply::Done);
     }
+    let mut taken = mem::replace(&mut sets[a], FixedBitSet::new(alloc));
+    taken.intersect_with(&sets[b]);
+    sets[a] = taken;
+    Ok(Reply::Done)
 }
 
-// A set combined with itself stays as it is, or becomes clear.
-fn with_itself(target: &mut FixedBitSet, joint: &Joint) {
-    match joint {
-        Joint::Union | Joint::Intersection | Joint::Copy => {}
-        Joint::SymmetricDifference | Joint::Difference => target.remove_range(..),
+fn difference_with(
+    alloc: Global,
+    sets: &mut [FixedBitSet],
+    a: usize,
+    b: usize,
+) -> Result<Reply, Refusal> {
+    check_sets(sets, a, b)?;
+    if a == b {
+        sets[a].clear();
+        return Ok(Reply::Done);
     }
+    let mut taken = mem::replace(&mut sets[a], FixedBitSet::new(alloc));
+    taken.difference_with(&sets[b]);
+    sets[a] = taken;
+    Ok(Reply::Done)
 }

@@ -2,7 +2,6 @@
 //! Commands that put a new value in a set's place.
 
 use crate::shim::prelude::{Clone, Vec};
-use crate::program::bitcommands::commands::joining::{Joint, join};
 use crate::program::bitcommands::commands::refusals::{
     Refusal, check_items, check_length, check_set, check_sets, check_value, sets_at,
 };
@@ -10,6 +9,7 @@ use crate::program::bitcommands::commands::replies::Reply;
 use crate::program::fixedbitset::{Block, FixedBitSet};
 use crate::shim::serde_json::Value;
 use crate::shim::alloc::{AllocError, Global};
+use core::mem;
 
 /// A command that puts a new value in the place of the set `target`.
 pub enum Make {
@@ -88,7 +88,7 @@ pub(super) fn apply_make(
             blocks,
         } => with_capacity_and_blocks(alloc, sets, *target, *bits, blocks.as_slice(), limit),
         Make::Clone { target, source } => clone(sets, *target, *source),
-        Make::CloneFrom { target, source } => join(alloc, sets, *target, *source, Joint::Copy),
+        Make::CloneFrom { target, source } => clone_from(alloc, sets, *target, *source),
         Make::FromIter { target, items } => {
             from_iter(alloc, sets, *target, items.as_slice(), limit)
         }
@@ -142,6 +142,24 @@ fn clone(sets: &mut [FixedBitSet], target: usize, source: usize) -> Result<Reply
     check_sets(sets, target, source)?;
     let made: Result<_, _> = sets[source].clone();
     put(sets, target, made)
+}
+
+// A set that is copied into itself stays as it is.
+fn clone_from(
+    alloc: Global,
+    sets: &mut [FixedBitSet],
+    target: usize,
+    source: usize,
+) -> Result<Reply, Refusal> {
+    check_sets(sets, target, source)?;
+    if target == source {
+        return Ok(Reply::Done);
+    }
+    let mut taken = mem::replace(&mut sets[target], FixedBitSet::new(alloc));
+    let result = taken.clone_from(&sets[source]);
+    sets[target] = taken;
+    result?;
+    Ok(Reply::Done)
 }
 
 // Where an item is not taken, the set stays as it was.

@@ -1,0 +1,14 @@
+use Rattle.bitcommands.specs.Guards.{needs_more_words}
+use Rattle.bitcommands.proofs.TakenOut.{changed, stopped}
+use Rattle.bitcommands.proofs.commands.making.clone_from.Goals as goal
+
+pub returns-in_err-result : goal.returns-in_err-result
+returns-in_err-result c =
+    λ m. stopped _ _ _ _ _ _ _ _ c.in_ok-check_sets.ensures c.if-target-source.false c.index-sets-target.is
+    c.replace-taken.ensures.value c.index-sets-source.is (λ v w. w) _ _ c.from_residual-in_err-result.ensures
+    c.in_err-result.ensures.err c.in_err-result.ensures.succeeds
+
+pub returns : goal.returns
+returns c =
+    λ m. changed _ _ _ _ _ _ _ _ c.in_ok-check_sets.ensures c.if-target-source.false c.index-sets-target.is
+    c.replace-taken.ensures.value c.index-sets-source.is needs_more_words (λ v w. w) _ c.in_ok-result.ensures.ok
