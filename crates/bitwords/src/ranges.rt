@@ -179,9 +179,20 @@ pub fn store(words: &mut [Block], start: usize, width: usize, number: Block, ste
     ensures bits { IsCopied (number ∷ []) 0 start (start + width) words.old words.new }
     ensures cost { steps.new ≡ steps.old + range_words start (start + width) }
 {
-    let low = width.min(BITS - start % BITS);
-    copy_part(words, start, start + low, &[number], 0, steps);
-    copy_part(words, start + low, start + width, &[number], low, steps);
+    if width == 0 {
+        return;
+    }
+    let at = start / BITS;
+    let shift = start % BITS;
+    let mask = stretch(0, width);
+    let number = number & mask;
+    steps.tick();
+    words[at] = words[at] & !(mask << shift) | number << shift;
+    if shift + width > BITS {
+        steps.tick();
+        let low = BITS - shift;
+        words[at + 1] = words[at + 1] & !(mask >> low) | number >> low;
+    }
 }
 
 // Where the whole words of the range begin and where they end. If it has none,

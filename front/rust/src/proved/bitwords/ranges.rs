@@ -132,9 +132,20 @@ pub fn load(words: &[Block], start: usize, width: usize) -> Block {
 /// ```
 #[inline(always)]
 pub fn store(words: &mut [Block], start: usize, width: usize, number: Block, steps: &mut Steps) {
-    let low = width.min(BITS - start % BITS);
-    copy_part(words, start, start + low, &[number], 0, steps);
-    copy_part(words, start + low, start + width, &[number], low, steps);
+    if width == 0 {
+        return;
+    }
+    let at = start / BITS;
+    let shift = start % BITS;
+    let mask = stretch(0, width);
+    let number = number & mask;
+    steps.tick();
+    words[at] = words[at] & !(mask << shift) | number << shift;
+    if shift + width > BITS {
+        steps.tick();
+        let low = BITS - shift;
+        words[at + 1] = words[at + 1] & !(mask >> low) | number >> low;
+    }
 }
 
 // Where the whole words of the range begin and where they end. If it has none,
