@@ -1,6 +1,6 @@
 -- Words are added, cut or written anew: what that does to the value.
 use Rattle.std.proofs.Common.{◌≡◌, ℕ, ◌-◌, ◌/◌, ◌%◌, ◌^◌, ◌<◌, ◌≤◌, List, ◌++◌}
-use Rattle.std.proofs.Common.{replicate, length, get_or, sym, ap, ◌∙◌, arith}
+use Rattle.std.proofs.Common.{false, replicate, length, get_or, sym, ap, ◌∙◌, arith}
 use Rattle.std.proofs.lemmas.List.{append-nil, get_or-append_right, get_or_append_left}
 use Rattle.std.proofs.lemmas.List.{get_or_past, get_or-replicate, length-replicate, length-append}
 use Rattle.bitwords.specs.Rows.{has_bit}
@@ -55,9 +55,12 @@ none_added ws count len same =
     sym (ap (λ j. ws ++ zeros j) (let e : count - len ≡ 0 = omega arith in e) ∙ append-nil ws)
 
 -- words that are all 0
-has_bit-none : (j n p : ℕ) → has_bit (zeros j) p ≡ contains (empty n) p
+pub has_bit-zeros : (j p : ℕ) → has_bit (zeros j) p ≡ false
 unfolding has_bit
-has_bit-none j n p = rw (get_or-none j (p / 64), contains-empty n p) (bit-zero (p % 64))
+has_bit-zeros j p = rw (get_or-none j (p / 64)) (bit-zero (p % 64))
+
+has_bit-none : (j n p : ℕ) → has_bit (zeros j) p ≡ contains (empty n) p
+has_bit-none j n p = has_bit-zeros j p ∙ sym (contains-empty n p)
 
 pub keeps_zeros : (n : ℕ) → n < 2 ^ 64 → Keeps n (replicate (storage_words n) 0) (empty n)
 keeps_zeros n fits = keeps n _ (empty n) fits (length-replicate _ 0) (length-empty n) (has_bit-none _ n)

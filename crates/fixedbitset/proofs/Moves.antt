@@ -113,6 +113,31 @@ module _ (n : ℕ) (ws : List ℕ) (clean : IsClean n ws) (k : ℕ) (count : k �
         has_bit-used p,
       ))
 
+-- words that the length needs, written over with the positions of a test and then cut at n, and zeros behind them
+pub keeps_over_zeros : (n : ℕ) → n < 2 ^ 64 → (ws mid part : List ℕ) (k : ℕ) (test : ℕ → Bool)
+    → length ws ≡ storage_words n → k ≡ words_needed n
+    → ((p : ℕ) → 64 * words_needed n ≤ p → has_bit ws p ≡ false)
+    → IsJoined (λ x y. y) (take k ws) test mid → IsJoined (λ x y. x && y) mid (λ p. nat_lt p n) part
+    → Keeps n (part ++ drop k ws) (having n test)
+keeps_over_zeros n fits ws mid part k test count used zeros moved cut =
+    let taken : length (take k ws) ≡ k = length-take-le k ws (omega (arith, count, used)) in
+    let short : length part ≡ k = cut.long ∙ moved.long ∙ taken in
+    keeps n (part ++ drop k ws) (having n test) fits
+    (omega (arith, length-appended part (drop k ws), length-drop k ws, short, count, used)) (length-having n test)
+    (λ p. ⊎_elim
+    (λ (front : p < 64 * k).
+    has_bit-front part (drop k ws) p (omega (arith, short))
+    ∙ grind (arith, nat_tests, taken, moved.long, cut.bits p, moved.bits p, contains-having n test p))
+    (λ (behind : 64 * k ≤ p).
+    has_bit-behind part ws k p short (omega (arith, behind)) ∙ zeros p (omega (arith, used))
+    ∙ grind (arith, nat_tests, used, contains-having n test p))
+    (cases_lt p (64 * k)))
+
+-- of a row that is cut at n, the words that n does not need are 0
+pub zeros_behind : (n : ℕ) (ws new : List ℕ) → IsJoined (λ x y. x && y) ws (λ p. nat_lt p n) new → (p : ℕ)
+    → 64 * words_needed n ≤ p → has_bit new p ≡ false
+zeros_behind n ws new cut p behind = grind (arith, nat_tests, cut.long, cut.bits p, has_bit-past new p)
+
 -- ---- the steps of these, and those of the lanes that are not moved
 
 swap : (o a b c : ℕ) → a ≤ b → o + (b - a) + (a + c) ≡ o + (b + c)
@@ -157,6 +182,38 @@ down_cost n q k long words old mid new used same count left moved =
       lanes_upto low q,
     )
     (swap old (lane_steps (low - q)) (lane_steps (4 * div_ceil low 4 - q)) _ more)
+
+-- q words of which some are left for a row of k and the rest of its lane, and one step more where that has none
+lanes_over : (k q : ℕ) → k ≤ q → q < 4 * div_ceil k 4 → lane_steps k + 1 ≡ lane_steps q + lane_steps (4 * div_ceil k 4 - q)
+lanes_over k q fit over = omega (arith, fit, over)
+
+lanes_over_cost : (old mid k q : ℕ) → k ≤ q → (q < 4 * div_ceil k 4 → mid ≡ old + 1)
+    → (4 * div_ceil k 4 ≤ q → mid ≡ old)
+    → mid + join_steps false k q ≡ old + join_steps false (4 * div_ceil k 4) q
+lanes_over_cost old mid k q fit more none =
+    let low : min k q ≡ k = omega (arith, fit) in
+    let rest : k - q ≡ 0 = omega (arith, fit) in
+    ⊎_elim
+    (λ (lt : q < 4 * div_ceil k 4).
+    let high : min (4 * div_ceil k 4) q ≡ q = omega (arith, lt) in
+    rw (more lt, low, rest, high) (omega (arith, lanes_over k q fit lt)))
+    (λ (ge : 4 * div_ceil k 4 ≤ q).
+    let high : min (4 * div_ceil k 4) q ≡ 4 * div_ceil k 4 = omega (arith, ge) in
+    let behind : 4 * div_ceil k 4 - q ≡ 0 = omega (arith, ge) in
+    rw (none ge, low, rest, high, behind) (omega arith))
+    (cases_lt q (4 * div_ceil k 4))
+
+-- the same where m positions from `start` on are written over the words that they need
+pub slice_cost : (n m start k long to words old mid new : ℕ) → start + m ≤ n → k ≡ words_needed m → long ≡ k
+    → to ≡ storage_words m → words ≡ storage_words n
+    → (words - start / 64 < to → mid ≡ old + 1) → (to ≤ words - start / 64 → mid ≡ old)
+    → new ≡ mid + join_steps false long (words - start / 64)
+    → new ≡ old + join_steps false (storage_words m) (storage_words n - start / 64)
+slice_cost n m start k long to words old mid new within used same count count_words more none moved =
+    let fit : words_needed m ≤ storage_words n - start / 64 = omega (arith, within) in
+    rw (moved, same, count_words, used)
+    (lanes_over_cost old mid (words_needed m) (storage_words n - start / 64) fit
+    (λ lt. more (rw (count, count_words) lt)) (λ ge. none (rw (count, count_words) ge)))
 
 -- the same where they are moved up, and those below are cleared or not
 up_less : (a b by : ℕ) → a ≤ b → up_steps a by ≤ up_steps b by

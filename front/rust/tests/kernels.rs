@@ -14,6 +14,7 @@ use proved::bitlanes::ops::{And, AndNot, Or, Second, WordOp, Xor};
 use proved::bitlanes::{changes, lanes, search, Steps};
 use proved::bitwords::cursors::{Beside, Cursor, Inverted, Plain, Seen};
 use proved::bitwords::handfuls;
+use proved::fixedbitset::views::Bits;
 use shim::Block;
 
 type Join = fn(Block, Block) -> Block;
@@ -272,5 +273,20 @@ fn one_row_is_counted_and_cleared_as_by_a_plain_loop() {
         let mut cleared = row.clone();
         assert_eq!(changes::zero(&mut cleared, steps), ones(&row) != 0);
         assert_eq!(ones(&cleared), 0);
+    }
+}
+
+#[test]
+fn a_part_is_written_over_words_that_have_other_positions() {
+    let words = &mixed(8, 1)[..];
+    let length = 64 * words.len();
+    for start in (0..=length).step_by(37) {
+        for end in (start..=length).step_by(29) {
+            let mut to = vec![Block::MAX; 4 * (end - start).div_ceil(256)];
+            Bits { words, length }.slice_to(start, end, &mut to, &mut Steps::new());
+            let within = positions(words).into_iter();
+            let within = within.filter(|at| (start..end).contains(at));
+            assert!(within.map(|at| at - start).eq(positions(&to)));
+        }
     }
 }

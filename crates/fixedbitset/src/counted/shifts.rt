@@ -130,7 +130,8 @@ pub fn slice<R: IndexRange<usize> + Drop>(
     let start = range.start().unwrap_or(0);
     let end = range.end().unwrap_or(set.len());
     let mut words = vec![in alloc; 0; storage_words(end - start)]?;
-    set.as_bits().slice_to(start, end, &mut words, steps);
+    let view = set.as_bits();
+    view.slice_over_zeros(start, end, &mut words, steps);
     Ok(FixedBitSet {
         words,
         length: end - start,

@@ -4,14 +4,14 @@
 //! the ends: `bound` says so, and `cost` how many it takes. The lanes past the words that the
 //! length needs are counted, though they are not moved.
 
-ghost use Rattle.std.specs.Prelude.{◌≡◌, ◌≤◌, ◌<◌, ◌+◌, ◌-◌, ◌/◌, ◌&&◌};
+ghost use Rattle.std.specs.Prelude.{◌≡◌, ℕ, ◌≤◌, ◌<◌, ◌+◌, ◌-◌, ◌*◌, ◌/◌, ◌&&◌};
 ghost use Rattle.std.specs.Prelude.{nat_le, min, true, false, if◌then◌else◌};
 ghost use Rattle.std.specs.Prelude as prelude;
 ghost use Rattle.bitlanes.specs.Shifts.{up_steps};
 ghost use Rattle.bitlanes.specs.Words.{lane_steps};
 ghost use Rattle.bitwords.specs.Rows.{has_bit};
 ghost use Rattle.bitwords.specs.Steps.{join_steps, join_up_steps, move_up_steps, search_steps};
-ghost use Rattle.fixedbitset.specs.Bits.{having, number_at, of_words, storage_words};
+ghost use Rattle.fixedbitset.specs.Bits.{having, number_at, of_words, storage_words, words_needed};
 ghost use Rattle.fixedbitset.specs.Parts as parts;
 ghost use Rattle.fixedbitset.specs.Stored.{IsClean};
 ghost use Rattle.fixedbitset.specs.Views.{value, held, Becomes};
@@ -218,8 +218,37 @@ impl Bits<'_> {
             (storage_words (end - start)) (storage_words self.entry.length - start / 64) }
         ensures bound { steps.new ≤ steps.old + lane_steps (storage_words (end - start)) + 1 }
     {
-        shifts::join_down::<Second>(to, self.words, start, steps);
         positions::clear_from(to, end - start);
+        self.slice_over_zeros(start, end, to, steps);
+    }
+
+    // `slice_to` over words of which those that the range does not need are 0.
+    #[inline(always)]
+    pub(crate) fn slice_over_zeros(
+        self,
+        start: usize,
+        end: usize,
+        to: &mut [Block],
+        steps: &mut Steps,
+    )
+        requires order { start ≤ end }
+        requires within { end ≤ self.length }
+        requires count { prelude.length to.old ≡ storage_words (end - start) }
+        requires zeros { (p : ℕ) → 64 * words_needed (end - start) ≤ p
+            → has_bit to.old p ≡ false }
+        ensures value { of_words (end - start) to.new ≡ parts.slice (value self.entry) start end }
+        ensures clean { IsClean (end - start) to.new }
+        ensures cost { steps.new ≡ steps.old + join_steps false
+            (storage_words (end - start)) (storage_words self.entry.length - start / 64) }
+    {
+        // A step is counted for the last words where this set has none in their place.
+        if self.words.len().saturating_sub(start / BITS) < to.len() {
+            steps.tick();
+        }
+        let used = (end - start).div_ceil(BITS);
+        let words = &mut to[..used];
+        shifts::join_down::<Second>(words, self.words, start, steps);
+        positions::clear_from(words, end - start);
     }
 
     /// The `width` positions from `start` on as a number: its bit `i` is position `start + i`.

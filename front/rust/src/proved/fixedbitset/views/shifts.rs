@@ -155,8 +155,27 @@ impl Bits<'_> {
     /// ```
     #[inline]
     pub fn slice_to(self, start: usize, end: usize, to: &mut [Block], steps: &mut Steps) {
-        shifts::join_down::<Second>(to, self.words, start, steps);
         positions::clear_from(to, end - start);
+        self.slice_over_zeros(start, end, to, steps);
+    }
+
+    // `slice_to` over words of which those that the range does not need are 0.
+    #[inline(always)]
+    pub(crate) fn slice_over_zeros(
+        self,
+        start: usize,
+        end: usize,
+        to: &mut [Block],
+        steps: &mut Steps,
+    ) {
+        // A step is counted for the last words where this set has none in their place.
+        if self.words.len().saturating_sub(start / BITS) < to.len() {
+            steps.tick();
+        }
+        let used = (end - start).div_ceil(BITS);
+        let words = &mut to[..used];
+        shifts::join_down::<Second>(words, self.words, start, steps);
+        positions::clear_from(words, end - start);
     }
 
     /// The `width` positions from `start` on as a number: its bit `i` is position `start + i`.
