@@ -8,9 +8,11 @@ use Rattle.std.proofs.lemmas.Grind.{common_steps}
 use Rattle.std.proofs.lemmas.List.{drop-take, length-set, length-append, length-take, length-drop, length-replicate}
 use Rattle.std.proofs.lemmas.List.{take-replicate, drop-replicate, get_or-replicate, get_or-set_same}
 use Rattle.std.proofs.lemmas.List.{get_or-set_other, get_or_past, with_items_is, set-get_or, take-take}
+use Rattle.std.proofs.lemmas.List.{drop-drop, length-take-le, get_or-take, get_or-drop}
 use Rattle.std.proofs.lemmas.List.FromFn.{get_or-map-range_with_len, fill_by_all}
 use Rattle.std.proofs.lemmas.Slice.{take-put_mid_below, drop-put_mid, between-put_mid}
-use Rattle.std.proofs.lemmas.Nat.{row_fits}
+use Rattle.std.proofs.lemmas.Nat.{mul-le, row_fits}
+use Rattle.std.proofs.Math.Nat.{mul-sub}
 use borrow.Rule.Slice.PartMut.{put_mid}
 use Rattle.bitwords.specs.Rows.{has_bit}
 use Rattle.bitwords.specs.RowFacts.{bit-zero}
@@ -20,7 +22,7 @@ use Rattle.fixedbitset.specs.Stored.{IsClean}
 use Rattle.fixedbitset.specs.TwoSets.{union, is_subset}
 use Rattle.fixedbitset.specs.TwoSetsFacts.{union-same, is_subset-tells}
 use Rattle.fixedbitset.specs.WordsFacts.{length-of_words, contains-of_words}
-use Rattle.bitrows.specs.Tables.{Table, row_of, blank, with_row}
+use Rattle.bitrows.specs.Tables.{Table, row_of, blank, with_row, rows_before, rows_from}
 use Rattle.bitrows.specs.Stored.{row_words, put_row, AreRows, IsTable, table_of}
 use Rattle.bitrows.specs.StoredFacts.{length-table, columns-table}
 
@@ -196,6 +198,62 @@ row_of_low w from mid ws within =
       take-take (from * w + w) mid ws within,
       cut_is w from ws,
     )
+
+-- ---- the rows before one, and those from it on
+
+module _ (w at : ℕ) (ws : List ℕ) where
+  row-low : (i : ℕ) → i < at → row_words w (take (at * w) ws) i ≡ row_words w ws i
+  row-low i below =
+      sym (row_is i w w (take (at * w) ws) refl) ∙ row_of_low w i (at * w) ws (row_within i at w below)
+
+  row-high : (i : ℕ) → row_words w (drop (at * w) ws) i ≡ row_words w ws (at + i)
+  row-high i =
+      let after : at * w + i * w ≡ (at + i) * w = omega arith in
+      ap (take w) (drop-drop (i * w) (at * w) ws ∙ ap (λ k. drop k ws) after)
+
+module _ (n w count at : ℕ) (ws : List ℕ) (within : at ≤ count) where
+  pub words_before : AreRows n w count ws → at * w ≤ length ws
+  words_before are = rw are.long (mul-le at w count w within (omega arith))
+
+  pub are_rows-low : AreRows n w count ws → AreRows n w at (take (at * w) ws)
+  are_rows-low are = record {
+    fits = are.fits;
+    wide = are.wide;
+    long = length-take-le (at * w) ws (words_before are);
+    each = λ i below. rw (row-low w at ws i below) (are.each i (omega arith));
+  }
+
+  pub are_rows-high : AreRows n w count ws → AreRows n w (count - at) (drop (at * w) ws)
+  are_rows-high are =
+      let others : count * w - at * w ≡ (count - at) * w = omega (arith, mul-sub w count at) in
+      record {
+        fits = are.fits;
+        wide = are.wide;
+        long = length-drop (at * w) ws ∙ ap (λ k. k - at * w) are.long ∙ others;
+        each = λ i below. rw (row-high w at ws i) (are.each (at + i) (omega arith));
+      }
+
+  pub table_of-low : table_of n w at (take (at * w) ws) ≡ rows_before (table_of n w count ws) at
+  table_of-low =
+      let rows : List Bits = (table_of n w count ws).rows in
+      table_is n w at (take (at * w) ws) (take at rows)
+      (length-take-le at rows (omega (arith, length-table n w count ws)))
+      (λ i below.
+      get_or-take at rows i (empty 0) below
+      ∙ get_or-table n w count ws i (empty 0) (omega arith)
+      ∙ ap (of_words n) (sym (row-low w at ws i below)))
+      ∙ rw columns-table refl
+
+  pub table_of-high : table_of n w (count - at) (drop (at * w) ws) ≡ rows_from (table_of n w count ws) at
+  table_of-high =
+      let rows : List Bits = (table_of n w count ws).rows in
+      table_is n w (count - at) (drop (at * w) ws) (drop at rows)
+      (length-drop at rows ∙ ap (λ k. k - at) (length-table n w count ws))
+      (λ i below.
+      get_or-drop at rows i (empty 0)
+      ∙ get_or-table n w count ws (at + i) (empty 0) (omega arith)
+      ∙ ap (of_words n) (sym (row-high w at ws i)))
+      ∙ rw columns-table refl
 
 -- ---- a row joined with itself
 

@@ -1,5 +1,5 @@
 -- The value of a table of bits: how many columns it has, and the set of columns of each row.
-use Rattle.std.specs.Prelude.{◌≡◌, ℕ, Bool, List, length, replicate, slice_set, slice_index_or}
+use Rattle.std.specs.Prelude.{◌≡◌, ℕ, Bool, List, length, replicate, take, drop, slice_set, slice_index_or}
 use Rattle.std.specs.Coded.{Coded, code_by, coded×, coded_ℕ, coded_list}
 use Rattle.std.proofs.Common.{refl}
 use Rattle.fixedbitset.specs.Bits.{Bits, contains, empty, set_bit}
@@ -29,6 +29,14 @@ with_row t row v = record { columns = t.columns; rows = slice_set t.rows row v }
 -- the row has a bit at the column or not, as `enabled` says, and all else stays
 abbrev pub set_at : Table → ℕ → ℕ → Bool → Table
 set_at t row column enabled = with_row t row (set_bit (row_of t row) column enabled)
+
+-- the rows before this one
+abbrev pub rows_before : Table → ℕ → Table
+rows_before t row = record { columns = t.columns; rows = take row t.rows }
+
+-- the rows from this one on
+abbrev pub rows_from : Table → ℕ → Table
+rows_from t row = record { columns = t.columns; rows = drop row t.rows }
 
 -- as many rows, and as many columns
 abbrev pub HaveSameSize : Table → Table → Type 0

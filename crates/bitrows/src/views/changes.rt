@@ -1,13 +1,14 @@
 //! Tables made and changed, and the closure of a graph.
 
-ghost use Rattle.std.specs.Prelude.{◌≡◌, ◌≢◌, ◌<◌, ◌≤◌, ◌↔◌, ◌+◌, ◌*◌, ℕ, min, not, length};
+ghost use Rattle.std.specs.Prelude.{◌≡◌, ◌≢◌, ◌<◌, ◌≤◌, ◌↔◌, ◌+◌, ◌-◌, ◌*◌, ℕ, min, not, length};
 ghost use Rattle.bitrows.specs.Paths.{HasEdge, IsConnected, IsPairCount};
 ghost use Rattle.bitrows.specs.Stored.{AreRows, IsRowJoined};
-ghost use Rattle.bitrows.specs.Tables.{row_of, blank, with_row, set_at};
+ghost use Rattle.bitrows.specs.Tables.{row_of, blank, with_row, set_at, rows_before, rows_from};
 ghost use Rattle.bitrows.specs.Views.{table, held, Becomes};
 ghost use Rattle.fixedbitset.specs.Bits.{of_words, set_bit, storage_words};
 ghost use Rattle.fixedbitset.specs.Stored.{IsClean};
 ghost use Rattle.fixedbitset.specs.TwoSets.{union, is_subset};
+ghost use Rattle.fixedbitset.specs.Views as sets;
 
 use crate::views::{Rows, RowsMut};
 use bitlanes::word::Block;
@@ -60,6 +61,73 @@ impl<'a> RowsMut<'a> {
             rows: self.rows,
             columns: self.columns,
         }
+    }
+
+    /// A row, to be changed: a set of `columns` positions over the words of the row. The row has to be
+    /// one of the table's.
+    ///
+    /// ```
+    /// let mut words = [7; 8];
+    /// let table = RowsMut::blank(&mut words, 2, 70);
+    /// table.row_mut(1).insert_range(63, 66, &mut Steps::new());
+    /// assert_eq!(rt; words, [0, 0, 0, 0, 1 << 63, 3, 0, 0]);
+    /// ```
+    #[inline(always)]
+    pub fn row_mut(self, row: usize) -> BitsMut<'a>
+        requires { row < self.rows }
+        ensures value { sets.held result ≡ row_of (held self.entry) row }
+        ensures length { result.length ≡ self.entry.columns }
+    {
+        let RowsMut {
+            words,
+            rows: _,
+            columns,
+        } = self;
+        let wide = storage_words(columns);
+        let start = row * wide;
+        BitsMut {
+            words: &mut words[start..start + wide],
+            length: columns,
+        }
+    }
+
+    /// The rows before row `at`, and those from it on, each part to be changed by itself. The second
+    /// counts its rows from 0 too. The table has to have as many rows.
+    ///
+    /// ```
+    /// let mut words = [7; 8];
+    /// let table = RowsMut::blank(&mut words, 2, 70);
+    /// let (mut low, mut high) = table.split_at_mut(1);
+    /// low.set(0, 3, true);
+    /// high.set(0, 64, true);
+    /// assert_eq!(rt; words, [8, 0, 0, 0, 0, 1, 0, 0]);
+    /// ```
+    #[inline(always)]
+    pub fn split_at_mut(self, at: usize) -> (RowsMut<'a>, RowsMut<'a>)
+        requires { at ≤ self.rows }
+        ensures low { held result.0 ≡ rows_before (held self.entry) at }
+        ensures high { held result.1 ≡ rows_from (held self.entry) at }
+        ensures rows { (result.0.rows ≡ at) × (result.1.rows ≡ self.entry.rows - at) }
+        ensures columns { (result.0.columns ≡ self.entry.columns)
+            × (result.1.columns ≡ self.entry.columns) }
+    {
+        let RowsMut {
+            words,
+            rows,
+            columns,
+        } = self;
+        let (low, high) = words.split_at_mut(at * storage_words(columns));
+        let first = RowsMut {
+            words: low,
+            rows: at,
+            columns,
+        };
+        let second = RowsMut {
+            words: high,
+            rows: rows - at,
+            columns,
+        };
+        (first, second)
     }
 
     /// Sets the bit of the row at the column, or clears it where `enabled` is false. The table has

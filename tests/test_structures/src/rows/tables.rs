@@ -1,7 +1,9 @@
 //! Tables beside flags, for several numbers of columns.
 
 use crate::rows::slow::{flag, join, rows};
-use bitrows::BitRows;
+use bitlanes::{Block, Steps};
+use bitrows::{BitRows, Rows, RowsMut};
+use fixedbitset::views::storage_words;
 use std::alloc::{AllocError, Global};
 use std::mem::ManuallyDrop;
 use std::process::Abort;
@@ -49,6 +51,7 @@ fn assert_same(rt: &impl Abort, table: &BitRows, columns: usize, wanted: &[Vec<b
             assert!(rt; !table.get(row, past), "{row} {past}");
         }
     }
+    assert!(rt; !table.get(table.rows(), 0) && !table.get(usize::MAX, columns));
 }
 
 #[test]
@@ -86,6 +89,44 @@ fn each_row_joined_with_each(rt: HostRuntime) -> Result<(), Fail> {
         }
     }
     Ok(())
+}
+
+#[test]
+fn each_row_by_itself_in_two_parts(rt: HostRuntime) -> Result<(), Fail> {
+    for columns in COLUMNS {
+        for at in 0..5 {
+            for own in 0..4 {
+                let mut words = vec![in rt.alloc(); 1; 4 * storage_words(columns)]?;
+                let (low, high) =
+                    RowsMut::blank(words.as_mut_slice(), 4, columns).split_at_mut(at);
+                assert!(rt; low.rows == at && high.rows == 4 - at, "{columns} {at}");
+                assert!(rt; low.columns == columns && high.columns == columns, "{at}");
+                let mut row = if own < at {
+                    low.row_mut(own)
+                } else {
+                    high.row_mut(own - at)
+                };
+                assert_eq!(rt; row.length, columns);
+                row.insert_range(0, columns, &mut Steps::new());
+                assert_own(&rt, &words, columns, own);
+            }
+        }
+    }
+    Ok(())
+}
+
+// Of four rows this one has each bit, and the others have none.
+fn assert_own(rt: &impl Abort, words: &[Block], columns: usize, own: usize) {
+    let table = Rows {
+        words,
+        rows: 4,
+        columns,
+    };
+    for row in 0..4 {
+        for column in 0..columns {
+            assert_eq!(rt; table.get(row, column), row == own, "{columns} {own} {column}");
+        }
+    }
 }
 
 #[test]

@@ -83,18 +83,17 @@ impl BitRows {
         }
     }
 
-    /// Whether the row has a bit at the column: `false` past the columns. The row has to
-    /// be one of the table's.
+    /// Whether the row has a bit at the column: `false` past the rows and past the columns.
     ///
     /// ```text
     /// let mut table = BitRows::new(alloc, 3, 70)?;
     /// table.set(1, 69, true);
     /// assert!(table.get(1, 69) && !table.get(2, 69));
-    /// assert!(!table.get(1, 500));
+    /// assert!(!table.get(1, 500) && !table.get(3, 69));
     /// ```
     #[inline]
     pub fn get(&self, row: usize, column: usize) -> bool {
-        self.as_rows().get(row, column)
+        row < self.rows() && self.as_rows().get(row, column)
     }
 
     /// Sets the bit of the row at the column, or clears it where `enabled` is false. The table has
@@ -160,8 +159,8 @@ impl BitRows {
     /// more edges led from `a` to `b`.
     ///
     /// Nothing leads on from a column that is no row. It does not allocate. With `n` rows and `m`
-    /// columns it looks at `n * min(n, m)` bits, and joins two rows for each bit that it finds set
-    /// ([`counted::close`](crate::proved::bitrows::counted::close)).
+    /// columns it looks at `n * min(n, m)` bits, and joins two rows for each bit that it finds set.
+    /// [`counted::close`](crate::proved::bitrows::counted::close) counts these joins.
     ///
     /// ```text
     /// let mut table = BitRows::new(alloc, 3, 3)?;

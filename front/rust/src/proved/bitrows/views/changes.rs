@@ -44,6 +44,62 @@ impl<'a> RowsMut<'a> {
         }
     }
 
+    /// A row, to be changed: a set of `columns` positions over the words of the row. The row has to be
+    /// one of the table's.
+    ///
+    /// ```text
+    /// let mut words = [7; 8];
+    /// let table = RowsMut::blank(&mut words, 2, 70);
+    /// table.row_mut(1).insert_range(63, 66, &mut Steps::new());
+    /// assert_eq!(words, [0, 0, 0, 0, 1 << 63, 3, 0, 0]);
+    /// ```
+    #[inline(always)]
+    pub fn row_mut(self, row: usize) -> BitsMut<'a> {
+        let RowsMut {
+            words,
+            rows: _,
+            columns,
+        } = self;
+        let wide = storage_words(columns);
+        let start = row * wide;
+        BitsMut {
+            words: &mut words[start..start + wide],
+            length: columns,
+        }
+    }
+
+    /// The rows before row `at`, and those from it on, each part to be changed by itself. The second
+    /// counts its rows from 0 too. The table has to have as many rows.
+    ///
+    /// ```text
+    /// let mut words = [7; 8];
+    /// let table = RowsMut::blank(&mut words, 2, 70);
+    /// let (mut low, mut high) = table.split_at_mut(1);
+    /// low.set(0, 3, true);
+    /// high.set(0, 64, true);
+    /// assert_eq!(words, [8, 0, 0, 0, 0, 1, 0, 0]);
+    /// ```
+    #[inline(always)]
+    pub fn split_at_mut(self, at: usize) -> (RowsMut<'a>, RowsMut<'a>) {
+        let RowsMut {
+            words,
+            rows,
+            columns,
+        } = self;
+        let (low, high) = words.split_at_mut(at * storage_words(columns));
+        let first = RowsMut {
+            words: low,
+            rows: at,
+            columns,
+        };
+        let second = RowsMut {
+            words: high,
+            rows: rows - at,
+            columns,
+        };
+        (first, second)
+    }
+
     /// Sets the bit of the row at the column, or clears it where `enabled` is false. The table has
     /// to have both. It writes one word.
     ///
