@@ -124,7 +124,7 @@ class Method:
 
 def signatures(folder):
     """The calls of views and of sets, those with the call of the view that the crate for Rust has in their place."""
-    found = [it for it in PUBLISH.calls(folder) if isinstance(it, PUBLISH.Signature)]
+    found = [it for it in PUBLISH.calls(folder) if isinstance(it, PUBLISH.Signature) and not isinstance(it, PUBLISH.Maker)]
     views = {it.name: it for it in found if isinstance(it, PUBLISH.Call)}
     for call in (it for it in found if isinstance(it, PUBLISH.SetCall)):
         call.view = views.get(call.name) if not call.result.startswith("Result<") else None

@@ -5,13 +5,23 @@ import dataclasses
 
 
 @dataclasses.dataclass(frozen=True)
-class File:
-    """A file of calls: their type, its first lines, where the call has its set to be read, and the modules of a set's calls."""
+class Owner:
+    """A type of calls: their file, what stands there before the calls, and where a view has its set to be read. Of a type that has no
+    view: the crate and the modules of its calls, its fields, the last of them the proved value, what the docs call it, and when a
+    new one panics."""
 
-    owner: str
+    file: str
     head: str
-    bits: str
+    bits: str = ""
+    crate: str = "fixedbitset"
     modules: tuple = ()
+    fields: str = "set"
+    value: str = "set"
+    panics: str = ""
+
+    def own(self):
+        """The field of the proved value."""
+        return self.fields.split(", ")[-1]
 
 
 @dataclasses.dataclass(frozen=True)
@@ -35,26 +45,33 @@ class Result:
     told: str = "which returns an error if an allocation fails"
     left: str = "The set is then as it was."
 
+    def name(self):
+        """The name of the type."""
+        return self.kind.partition("<")[0]
 
-FILES = {
-    "published_reads.rs": File("Bits", """\
+
+OWNERS = {
+    "Bits": Owner("published_reads.rs", """\
 //! The calls of the views that read a set over borrowed words.
 use crate::proved::bitlanes::Steps;
+use crate::proved::fixedbitset::views;
 use crate::{
     Bits, Block, Difference, IndexRange, Intersection, Ones, Runs, SymmetricDifference, Union,
     Zeroes,
 };
 
 impl<'a> Bits<'a> {
-""", "self"),
-    "published_changes.rs": File("BitsMut", """\
+""", "self", fields="view"),
+    "BitsMut": Owner("published_changes.rs", """\
 //! The calls of the views that change a set over borrowed words.
 use crate::proved::bitlanes::Steps;
-use crate::{Bits, BitsMut, Block, IndexRange};
+use crate::proved::fixedbitset::views;
+use crate::{panics, storage_words, Bits, BitsMut, Block, IndexRange};
 
-impl BitsMut<'_> {
-""", "self.as_bits()"),
-    "published_sets.rs": File("FixedBitSet", """\
+impl<'a> BitsMut<'a> {
+""", "self.as_bits()", fields="view"),
+    "FixedBitSet": Owner(
+        "published_sets.rs", """\
 //! The calls of a set, by those of views and by its own.
 use crate::memory::OrAbort;
 use crate::proved::bitlanes::Steps;
@@ -67,15 +84,28 @@ use crate::{
 use alloc::vec::Vec;
 
 impl FixedBitSet {
-""", "self.as_bits()", ("set", "bits", "ranges", "questions", "whole", "of_two", "parts", "shifts", "neighbours", "walks", "pairs",
-                        "extend")),
-    "published_arrays.rs": File("ArrayBitSet", """\
+""", modules=("set", "bits", "ranges", "questions", "whole", "of_two", "parts", "shifts", "neighbours", "walks", "pairs", "extend")),
+    "ArrayBitSet": Owner("published_arrays.rs", """\
 //! The calls of a set in an array, by those of views.
 use crate::proved::bitlanes::Steps;
 use crate::{ArrayBitSet, Block, Difference, IndexRange, Intersection, Ones, Zeroes};
 
 impl<const WORDS: usize> ArrayBitSet<WORDS> {
-""", ""),
+"""),
+    "Ranks": Owner(
+        "published_structures.rs", """\
+//! The calls of ranks, slots and tables.
+use crate::memory::OrAbort;
+use crate::proved::{bitranks::ranks, bitrows::table, bitslots::slots};
+use crate::shim::alloc::Global;
+use crate::{AllocError, BitRows, Bits, FixedBitSet, Ranks, RowsMut, Slots};
+
+impl<'a> Ranks<'a> {
+""", crate="bitranks", modules=("ranks",), fields="set, ranks"),
+    "Slots": Owner("published_structures.rs", "\n#[allow(clippy::len_without_is_empty)]\nimpl Slots {\n", crate="bitslots", modules=("slots",), fields="slots", value="slots"),
+    "BitRows": Owner("published_structures.rs", "\nimpl BitRows {\n", crate="bitrows", modules=("table",), fields="table", value="table",
+                     panics="its words would be more than a vector can have"),
+    "RowsMut": Owner("published_structures.rs", "\nimpl RowsMut<'_> {\n", crate="bitrows", fields="table", value="table"),
 }
 
 # The lines of a call, and its one call, which `made` of its result and `handed` of its parameters stand in.
@@ -89,7 +119,7 @@ TRACK = "    #[track_caller]\n"
 MUST = "    #[must_use]\n"
 CALL = "self.view.{name}({handed})"
 # A call of a set by its own, on a set and on none, and what stands before one of a view that changes a range.
-SET, OF_SETS = "self.set.", "set::FixedBitSet::"
+SET, OF_SETS = "self.{own}.", "{path}::"
 DIRECT = "        let (start, end) = self.as_bits().part(&range);\n"
 
 OF_RESULT = "the length is not that of the result"
@@ -132,6 +162,10 @@ PARAMETERS = {
     "steps: &mut Steps": ("", "&mut Steps::new()"),
 }
 
+# What is made of a proved walk, or of a proved view, and of a value that is new.
+WALK, VIEW = "let walk = {0};\n        {1} {{ walk }}", "let view = {0};\n        {1} {{ view }}"
+NEW, TRY_NEW = "let {own} = {0}.or_abort();\n        {owner} {{ {fields} }}", "let {own} = {0}?;\n        Ok({owner} {{ {fields} }})"
+
 # The result by its type in the source.
 RESULTS = {
     "": Result("", "{};", ""),
@@ -140,15 +174,13 @@ RESULTS = {
     "Option<usize>": Result("Option<usize>", "{}"),
     "Block": Result("u64", "{} as u64"),
     "&'a [Block]": Result("&'a [Block]", "{}", "the words"),
-    "Cursor<Plain<'a>>": Result("Ones<'a>", "let walk = {};\n        Ones {{ walk }}", "each item"),
-    "Cursor<Inverted<'a>>": Result("Zeroes<'a>", "let walk = {};\n        Zeroes {{ walk }}", "each item"),
-    "Cursor<Beside<'a, And>>": Result("Intersection<'a>", "let walk = {};\n        Intersection {{ walk }}", "each item"),
-    "Cursor<Beside<'a, AndNot>>": Result("Difference<'a>", "let walk = {};\n        Difference {{ walk }}", "each item"),
-    "InTurn<Cursor<Plain<'a>>, Cursor<Beside<'a, AndNot>>>": Result(
-        "Union<'a>", "let walk = {};\n        Union {{ walk }}", "each item"),
-    "InTurn<Cursor<Beside<'a, AndNot>>, Cursor<Beside<'a, AndNot>>>": Result(
-        "SymmetricDifference<'a>", "let walk = {};\n        SymmetricDifference {{ walk }}", "each item"),
-    "Runs<'a>": Result("Runs<'a>", "let walk = {};\n        Runs {{ walk }}", "each stretch"),
+    "Cursor<Plain<'a>>": Result("Ones<'a>", WALK, "each item"),
+    "Cursor<Inverted<'a>>": Result("Zeroes<'a>", WALK, "each item"),
+    "Cursor<Beside<'a, And>>": Result("Intersection<'a>", WALK, "each item"),
+    "Cursor<Beside<'a, AndNot>>": Result("Difference<'a>", WALK, "each item"),
+    "InTurn<Cursor<Plain<'a>>, Cursor<Beside<'a, AndNot>>>": Result("Union<'a>", WALK, "each item"),
+    "InTurn<Cursor<Beside<'a, AndNot>>, Cursor<Beside<'a, AndNot>>>": Result("SymmetricDifference<'a>", WALK, "each item"),
+    "Runs<'a>": Result("Runs<'a>", WALK, "each stretch"),
 }
 
 # The same of a set's own calls.
@@ -159,6 +191,16 @@ SET_FORMS = {
     ("(it : I.IntoIter) → I.into_iter_gives items it → I.IntoIter.can_next it × IsFinite (I.IntoIter.remaining it)",): Form("", ""),
     ("bits < 2 ^ 64 - 1",): Form("self.assert_position(bits);", "`bits` is `usize::MAX`"),
     ("self.length + other.length < 2 ^ 64",): Form("self.assert_sum(other);", "the sum of the lengths is past `usize::MAX`"),
+    ("prelude.length words ≡ storage_words length",): Form(
+        "if words.len() != storage_words(length) {\n            panics::miscounted(words.len(), length);\n        }",
+        "there are not [`storage_words`](crate::storage_words) of them"),
+    ("kept ≤ length",): Form(
+        "if kept > length {\n            panics::past(\"keep below\", kept, length);\n        }", "`kept` is past the length"),
+    ("IsTaken self slot",): Form("self.assert_taken(self.is_taken(slot), slot, 1);", "it is not taken"),
+    ("IsTakenStretch self count start",): Form(
+        "self.assert_taken(self.slots.is_taken_stretch(start, count), start, count);", "one of them is not taken"),
+    ("row < length self.rows", "column < self.columns"): Form("self.assert_cell(row, column);", "the table has no such row or no such column"),
+    ("from < length self.rows", "into < length self.rows"): Form("self.assert_pair(from, into);", "the table has not both rows"),
 }
 # (`{}` in a type stands for the name.)
 SET_PARAMETERS = {
@@ -167,6 +209,9 @@ SET_PARAMETERS = {
     "bool": ("{}: bool", "{}"),
     "&[u8]": ("{}: &[u8]", "{}"),
     "&Self": ("{}: &FixedBitSet", "&{}.set"),
+    "&'a FixedBitSet": ("{}: &'a FixedBitSet", "&{}.set"),
+    "&'a [Block]": ("{}: &'a [Block]", "{}"),
+    "&'a mut [Block]": ("{}: &'a mut [Block]", "{}"),
     "Bits<'_>": ("{}: Bits<'_>", "{}.view"),
     "range: R": ("range: T", "start..end"),
     "I": ("{}: I", "{}"),
@@ -176,22 +221,27 @@ SET_RESULTS = {
     "bool": Result("bool", "{}"),
     "usize": Result("usize", "{}"),
     "": Result("", "{};", ""),
-    "IntoOnes": Result("IntoOnes", "let walk = {};\n        IntoOnes {{ walk }}", "each item"),
+    "Option<usize>": Result("Option<usize>", "{}"),
+    "Self": Result("Self", "let {own} = {0};\n        {owner} {{ {fields} }}", "the {}"),
+    "Option<Self>": Result("Option<Self>", "let {own} = {0}?;\n        Some({owner} {{ {fields} }})"),
+    "Bits<'_>": Result("Bits<'_>", VIEW, "the set"),
+    "fixedbitset::Bits<'_>": Result("Bits<'_>", VIEW, "the set"),
+    "IntoOnes": Result("IntoOnes", WALK, "each item"),
     "Result<(), AllocError>": Result("", "{}.or_abort();", "", "Result<(), AllocError>"),
     "Result<bool, AllocError>": Result("bool", "{}.or_abort()", "the result", "Result<bool, AllocError>"),
-    "Result<Self, AllocError>": Result(
-        "Self", "let set = {}.or_abort();\n        FixedBitSet {{ set }}", "the set",
-        "Result<Self, AllocError>", "let set = {}?;\n        Ok(FixedBitSet {{ set }})"),
+    "Result<Self, AllocError>": Result("Self", NEW, "the {}", "Result<Self, AllocError>", TRY_NEW),
     "Result<Vec<u8>, AllocError>": Result(
         "Vec<u8>", "{}.or_abort().0", "the bytes", "Result<Vec<u8>, AllocError>", "Ok({}?.0)"),
     "Result<(), ExtendFault>": Result(
         "", "", "", "Result<(), ExtendFault>", "{}", STOPS, "The positions before it are then in the set."),
     "Result<Self, ExtendFault>": Result(
-        "", "", "the set", "Result<Self, ExtendFault>", "let set = {}?;\n        Ok(FixedBitSet {{ set }})", STOPS),
+        "", "", "the {}", "Result<Self, ExtendFault>", TRY_NEW, STOPS),
 }
 # Calls of which the one alone is made that says where memory is refused. The other is a trait's, or in lib.rs two calls, so that one
 # with room saves no registers.
 TRIED = {"clone_from", "extend", "from_iter", "grow_and_insert"}
+# The calls that make a view.
+MAKERS = {("Bits", "over"), ("BitsMut", "over"), ("BitsMut", "settle"), ("BitsMut", "as_bits"), ("FixedBitSet", "as_bits")}
 # Calls that go over words and are no part of the program of each that makes them.
 OUTLINED = {"union_with", "symmetric_difference_with", "union_with_change", "symmetric_difference_with_change",
             "union_with_difference"}
@@ -199,9 +249,17 @@ OUTLINED = {"union_with", "symmetric_difference_with", "union_with_change", "sym
 ARRAYS = set("as_slice contains insert remove put take toggle set count_ones insert_range remove_range minimum maximum is_clear next_one "
              "next_zero ones zeroes first_gap union_with intersect_with difference_with symmetric_difference_with union_with_change "
              "is_subset is_disjoint intersection_count intersection difference first_lacking".split())
+# The calls of tables that some rows of one have, by another call where theirs has not the name, with their contract.
+PARTS = {
+    "rows": ("self.table.rows", "rowsmutas_rows"),
+    "columns": ("self.table.columns", "rowsmutas_rows"),
+    "get": ("row < self.rows() && self.table.as_rows().get(row, column)", "rowsget"),
+    "set": ("", "rowsmutset"),
+    "union_rows": ("", "rowsmutunion_rows"),
+}
 # Sentences with one of these speak of what the call of the crate has not.
 # (The allocator zeroes a new row that is long, so nothing is written.)
-LEFT_OUT = ("`Err`", "The set is then as it was.", "(`range_is_valid`)", "`to_value`", "It writes `bits / 64` words",
+LEFT_OUT = ("`Err`", "So it is where there would be", "It writes each word once: a row", "`counted::close`", "The set is then as it was.", "(`range_is_valid`)", "`to_value`", "It writes `bits / 64` words",
             "It writes each word as 0")
 
 # Calls of a walk in turn that have another name as Rust's traits have them.
@@ -213,7 +271,6 @@ UNSAFE = "upstream has it as an `unsafe fn`, in unchecked.rs"
 WRITES = "it writes words that are no set yet: the calls of sets that are written give it these"
 HIDDEN = {
     ("", "storage_words"): "views.rs hands it on",
-    ("Bits", "over"): "views.rs makes the type by it, for `BitsMut` too",
     ("Bits", "contains_unchecked"): "upstream has it as an `unsafe fn` of a set, in unchecked.rs",
     ("Bits", "range_is_valid"): "`part` asks it of each range",
     ("Bits", "is_equal"): "it is the trait `PartialEq`",
@@ -225,9 +282,6 @@ HIDDEN = {
     ("Bits", "difference_to"): WRITES,
     ("Bits", "slice_to"): WRITES,
     ("Bits", "to_bytes"): "it writes bytes that words.rs gives it",
-    ("BitsMut", "over"): "views.rs makes the type by it",
-    ("BitsMut", "settle"): "views.rs makes the type by it",
-    ("BitsMut", "as_bits"): "views.rs makes the other type by it",
     ("FixedBitSet", "new"): "it is a `const fn` in lib.rs",
     ("FixedBitSet", "default"): TRAIT,
     ("FixedBitSet", "bitor_assign"): TRAIT,
@@ -235,16 +289,21 @@ HIDDEN = {
     ("FixedBitSet", "bitand"): TRAIT,
     ("FixedBitSet", "bitor"): TRAIT,
     ("FixedBitSet", "bitxor"): TRAIT,
-    ("FixedBitSet", "as_bits"): "views.rs makes the type by it",
     ("FixedBitSet", "range_is_valid"): "`part` asks a view of each range",
+    ("Ranks", "set"): "ranks.rs has the crate's own set",
+    ("Slots", "is_taken_stretch"): "`give_back_stretch` asks it",
+    ("Slots", "lower"): "it is two calls",
+    ("BitRows", "as_rows"): "rows.rs makes views of rows by it",
+    ("BitRows", "row"): "rows.rs goes over the view of a row",
     **{("FixedBitSet", f"{it}_unchecked"): UNSAFE for it in ("contains", "insert", "remove", "put", "toggle", "set", "copy_bit")},
 }
 
 # All text of Rust in these tables, but for what stands for another.
+SHARED = (WALK, VIEW, NEW, TRY_NEW)
 TEMPLATES = [
-    METHOD, INLINE, TRACK, MUST, CALL, SET, OF_SETS, DIRECT, *(it.head for it in FILES.values()),
+    METHOD, INLINE, TRACK, MUST, CALL, SET, OF_SETS, DIRECT, *(it.head for it in OWNERS.values()), *(it for it, _ in PARTS.values()),
     *(it.test for table in (FORMS, SET_FORMS) for it in table.values()),
     *(handed for table in (PARAMETERS, SET_PARAMETERS) for *_, handed in table.values()),
-    *(text for table in (RESULTS, SET_RESULTS) for it in table.values() for text in (it.made, it.try_made)),
+    *(text for table in (RESULTS, SET_RESULTS) for it in table.values() for text in (it.made, it.try_made) if text not in SHARED), *SHARED,
 ]
 TEMPLATES = [text for text in TEMPLATES if text.strip(";") != "{}"]

@@ -2,6 +2,7 @@
 use crate::proved::fixedbitset::views;
 use crate::{storage_words, Bits, BitsMut, Block};
 use core::cmp::Ordering;
+use core::hash::{Hash, Hasher};
 
 /// A bit set in an array: it is `Copy`, allocates nothing, and is a key that is quickly copied, hashed and compared.
 ///
@@ -177,6 +178,14 @@ impl<const WORDS: usize> Ord for ArrayBitSet<WORDS> {
     #[inline]
     fn cmp(&self, other: &Self) -> Ordering {
         self.as_bits().cmp(&other.as_bits())
+    }
+}
+
+/// Proved: the words ([contract](crate::contracts#fixedbitsetbitsas_slice)). That they are fed after the length is not.
+impl<const WORDS: usize> Hash for ArrayBitSet<WORDS> {
+    #[inline]
+    fn hash<H: Hasher>(&self, state: &mut H) {
+        self.as_bits().hash(state);
     }
 }
 

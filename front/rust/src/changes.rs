@@ -14,6 +14,7 @@ macro_rules! asserts {
         }
     )* };
 }
+pub(crate) use asserts;
 
 impl BitsMut<'_> {
     /// [`FixedBitSet::len`](crate::FixedBitSet::len).

@@ -1,4 +1,4 @@
-// Made by front/publish from crates/fixedbitset/src: change that, and not this.
+// Made by front/publish from the sources in crates: change these, and not this.
 //! The calls of a set in an array, by those of views.
 use crate::proved::bitlanes::Steps;
 use crate::{ArrayBitSet, Block, Difference, IndexRange, Intersection, Ones, Zeroes};

@@ -1,9 +1,10 @@
-// Made by front/publish from crates/fixedbitset/src: change that, and not this.
+// Made by front/publish from the sources in crates: change these, and not this.
 //! The calls of the views that change a set over borrowed words.
 use crate::proved::bitlanes::Steps;
-use crate::{Bits, BitsMut, Block, IndexRange};
+use crate::proved::fixedbitset::views;
+use crate::{panics, storage_words, Bits, BitsMut, Block, IndexRange};
 
-impl BitsMut<'_> {
+impl<'a> BitsMut<'a> {
     /// Leaves the positions that bytes say: position `p` is set where bit `p % 8` of byte `p / 8`
     /// is. Bytes that are missing count as 0, and bits past the length are dropped.
     ///
@@ -223,6 +224,75 @@ impl BitsMut<'_> {
     pub fn difference_of(&mut self, one: Bits<'_>, other: Bits<'_>) {
         self.assert_length(one.len());
         self.view.difference_of(one.view, other.view);
+    }
+
+    /// Makes any words those of a set of `length` positions: of the positions that they have those below
+    /// `kept` stay.
+    ///
+    /// So with `kept` 0 no position is set, with `kept` the length none below it is lost, and with the
+    /// length of before the set has grown. There have to be as many words as a set of this length keeps. It
+    /// writes the word of `kept` and those after it.
+    ///
+    /// **Panics** where there are not [`storage_words`](crate::storage_words) of them, and where `kept` is
+    /// past the length.
+    ///
+    /// Proved: the set, for all words and all numbers, wherever it does not panic
+    /// ([contract](crate::contracts#fixedbitsetbitsmutsettle)).
+    ///
+    /// ```
+    /// # use fixedbitset::{BitsMut, Block};
+    /// let mut words = [8, Block::MAX, 1, 0];
+    /// BitsMut::settle(&mut words, 70, 66);
+    /// assert_eq!(words, [8, 3, 0, 0]);
+    /// ```
+    #[inline]
+    #[must_use]
+    #[track_caller]
+    pub fn settle(words: &'a mut [Block], length: usize, kept: usize) -> Self {
+        if words.len() != storage_words(length) {
+            panics::miscounted(words.len(), length);
+        }
+        if kept > length {
+            panics::past("keep below", kept, length);
+        }
+        let view = views::BitsMut::settle(words, length, kept);
+        BitsMut { view }
+    }
+
+    /// [`Bits::over`], to be changed: `None` where the words are not those of a set of `length` positions
+    /// as they stand.
+    ///
+    /// Proved: the result, for all words and all numbers
+    /// ([contract](crate::contracts#fixedbitsetbitsmutover)).
+    ///
+    /// ```
+    /// # use fixedbitset::BitsMut;
+    /// let mut words = [8, 64, 0, 0];
+    /// assert!(BitsMut::over(&mut words, 70).is_none());
+    /// assert!(BitsMut::over(&mut words, 71).is_some());
+    /// ```
+    #[inline]
+    #[must_use]
+    pub fn over(words: &'a mut [Block], length: usize) -> Option<Self> {
+        let view = views::BitsMut::over(words, length)?;
+        Some(BitsMut { view })
+    }
+
+    /// The set to be read.
+    ///
+    /// Proved: the set, for all sets ([contract](crate::contracts#fixedbitsetbitsmutas_bits)).
+    ///
+    /// ```
+    /// # use fixedbitset::BitsMut;
+    /// let mut words = [8, 1, 0, 0];
+    /// let set = BitsMut::settle(&mut words, 70, 70);
+    /// assert!(set.as_bits().contains(3));
+    /// ```
+    #[inline]
+    #[must_use]
+    pub fn as_bits(&self) -> Bits<'_> {
+        let view = self.view.as_bits();
+        Bits { view }
     }
 
     /// Sets the position, which has to be below the length.

@@ -1,6 +1,7 @@
-// Made by front/publish from crates/fixedbitset/src: change that, and not this.
+// Made by front/publish from the sources in crates: change these, and not this.
 //! The calls of the views that read a set over borrowed words.
 use crate::proved::bitlanes::Steps;
+use crate::proved::fixedbitset::views;
 use crate::{
     Bits, Block, Difference, IndexRange, Intersection, Ones, Runs, SymmetricDifference, Union,
     Zeroes,
@@ -210,6 +211,28 @@ impl<'a> Bits<'a> {
     #[must_use]
     pub fn previous_zero(self, below: usize) -> Option<usize> {
         self.view.previous_zero(below, &mut Steps::new())
+    }
+
+    /// The words as a set of `length` positions, or `None` where they are not those of one as they stand:
+    /// as many whole lanes as the length needs, and no bit past it. So words from elsewhere can be refused,
+    /// where `settle` would clear what does not fit.
+    ///
+    /// It looks at the word of the length and at those after it, which are at most one lane.
+    ///
+    /// Proved: the result, for all words and all numbers
+    /// ([contract](crate::contracts#fixedbitsetbitsover)).
+    ///
+    /// ```
+    /// # use fixedbitset::Bits;
+    /// assert!(Bits::over(&[8, 63, 0, 0], 70).is_some());
+    /// assert!(Bits::over(&[8, 64, 0, 0], 70).is_none());
+    /// assert!(Bits::over(&[8, 63], 70).is_none());
+    /// ```
+    #[inline]
+    #[must_use]
+    pub fn over(words: &'a [Block], length: usize) -> Option<Self> {
+        let view = views::Bits::over(words, length)?;
+        Some(Bits { view })
     }
 
     /// The words that the length needs, without those after them that make up a whole lane: those

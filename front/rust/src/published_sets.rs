@@ -1,4 +1,4 @@
-// Made by front/publish from crates/fixedbitset/src: change that, and not this.
+// Made by front/publish from the sources in crates: change these, and not this.
 //! The calls of a set, by those of views and by its own.
 use crate::memory::OrAbort;
 use crate::proved::bitlanes::Steps;
@@ -197,6 +197,24 @@ impl FixedBitSet {
     pub fn try_from_bits(bits: Bits<'_>) -> Result<Self, AllocError> {
         let set = set::FixedBitSet::from_bits(Global::Try, bits.view)?;
         Ok(FixedBitSet { set })
+    }
+
+    /// The set as a view, to be read: no word is copied.
+    ///
+    /// Upstream has no such call.
+    ///
+    /// Proved: the set, for all sets ([contract](crate::contracts#fixedbitsetfixedbitsetas_bits)).
+    ///
+    /// ```
+    /// # use fixedbitset::FixedBitSet;
+    /// let set = FixedBitSet::from_iter([3, 64]);
+    /// assert!(set.as_bits().contains(64));
+    /// ```
+    #[inline]
+    #[must_use]
+    pub fn as_bits(&self) -> Bits<'_> {
+        let view = self.set.as_bits();
+        Bits { view }
     }
 
     /// Makes word `index` the given one. Bits past the length are dropped. The word has to be one

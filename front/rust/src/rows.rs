@@ -1,9 +1,7 @@
 //! Bit matrices. Upstream has none.
-use crate::memory::OrAbort;
+use crate::changes::asserts;
 use crate::proved::bitrows::{table, views as tables};
-use crate::proved::fixedbitset::views;
-use crate::shim::alloc::Global;
-use crate::{panics, storage_words, AllocError, Bits, BitsMut, Ones};
+use crate::{panics, Bits, BitsMut, Ones};
 use core::fmt::{Debug, Formatter, Result as Written};
 use core::hash::{Hash, Hasher};
 
@@ -25,7 +23,7 @@ use core::hash::{Hash, Hasher};
 /// ```
 #[derive(Clone)]
 pub struct BitRows {
-    table: table::BitRows,
+    pub(crate) table: table::BitRows,
 }
 
 /// Some rows of a table, one after the other, to be changed: to a [`BitRows`] what a slice `&mut [T]` is to a `Vec`.
@@ -45,161 +43,29 @@ pub struct BitRows {
 /// assert_eq!(format!("{table:?}"), "[{}, {3}, {}, {68, 69}]");
 /// ```
 pub struct RowsMut<'a> {
-    table: tables::RowsMut<'a>,
+    pub(crate) table: tables::RowsMut<'a>,
 }
 
-impl BitRows {
-    /// The table of so many rows and columns with no bit.
-    ///
-    /// **Panics** where its words would be more than a vector can have. Where an allocation fails the program ends;
-    /// [`try_new`](Self::try_new) returns an error instead.
-    ///
-    /// Proved: the table, for all numbers, wherever it does not panic ([contract](crate::contracts#bitrowsbitrowsnew)).
-    ///
-    /// ```
-    /// # use fixedbitset::BitRows;
-    /// let table = BitRows::new(3, 70);
-    /// assert!(!table.get(2, 69));
-    /// ```
-    #[must_use]
-    #[track_caller]
-    pub fn new(rows: usize, columns: usize) -> Self {
-        let table = table::BitRows::new(Global::Abort, rows, columns).or_abort();
-        BitRows { table }
-    }
-
-    /// [`new`](Self::new), which returns an error if an allocation fails.
-    ///
-    /// Proved: the table, for all numbers ([contract](crate::contracts#bitrowsbitrowsnew)).
-    ///
-    /// ```
-    /// # use fixedbitset::BitRows;
-    /// assert_eq!(BitRows::try_new(3, 70)?.columns(), 70);
-    /// assert!(BitRows::try_new(usize::MAX, 70).is_err());
-    /// # Ok::<(), fixedbitset::AllocError>(())
-    /// ```
-    pub fn try_new(rows: usize, columns: usize) -> Result<Self, AllocError> {
-        let table = table::BitRows::new(Global::Try, rows, columns)?;
-        Ok(BitRows { table })
-    }
-
-    /// The transitive closure of the graph that has an edge from each row to each column at which the row has a bit:
-    /// afterwards row `a` has a bit at column `b` exactly if some path of one or more edges led from `a` to `b`. Nothing
-    /// leads on from a column that is no row.
-    ///
-    /// Proved: what it leaves, for all tables ([contract](crate::contracts#bitrowsrowsmutclose)).
-    ///
-    /// ```
-    /// # use fixedbitset::BitRows;
-    /// let mut edges = BitRows::new(3, 3);
-    /// edges.set(0, 1, true);
-    /// edges.set(1, 0, true);
-    /// edges.close();
-    /// assert_eq!(edges.row(0).collect::<Vec<_>>(), [0, 1]);
-    /// ```
-    pub fn close(&mut self) {
-        self.table.close();
-    }
-}
-
-/// Declares the calls of a table, which its parts have too.
+/// Declares the calls of a table by its rows, which its parts have too.
 macro_rules! tables {
     ($($name:ty;)*) => { $(
         impl $name {
-            /// How many rows there are.
-            ///
-            /// Proved: the number, for all tables
-            /// ([of a table](crate::contracts#bitrowsbitrowsas_rows), [of a part](crate::contracts#bitrowsrowsmutas_rows)).
-            ///
-            /// ```
-            /// # use fixedbitset::BitRows;
-            /// assert_eq!(BitRows::new(3, 70).rows(), 3);
-            /// ```
-            #[inline]
-            #[must_use]
-            pub fn rows(&self) -> usize {
-                self.table.as_rows().rows
+            asserts! {
+                assert_row(&self, row: usize)
+                    row >= self.rows() => panics::no_row(row, self.rows());
+                assert_cell(&self, row: usize, column: usize)
+                    row >= self.rows() || column >= self.columns()
+                        => panics::no_cell(row, column, self.rows(), self.columns());
+                assert_pair(&self, from: usize, into: usize)
+                    from >= self.rows() || into >= self.rows() => panics::no_pair(from, into, self.rows());
             }
 
-            /// How many columns there are.
-            ///
-            /// Proved: the number, for all tables
-            /// ([of a table](crate::contracts#bitrowsbitrowsas_rows), [of a part](crate::contracts#bitrowsrowsmutas_rows)).
-            ///
-            /// ```
-            /// # use fixedbitset::BitRows;
-            /// assert_eq!(BitRows::new(3, 70).columns(), 70);
-            /// ```
+            /// The proved view, to be changed.
             #[inline]
-            #[must_use]
-            pub fn columns(&self) -> usize {
-                self.table.as_rows().columns
-            }
-
-            /// Whether the row has a bit at the column: `false` past the rows and past the columns.
-            ///
-            /// Proved: the result, for each row of the table ([contract](crate::contracts#bitrowsrowsget)). Past the rows it is
-            /// not.
-            ///
-            /// ```
-            /// # use fixedbitset::BitRows;
-            /// let mut table = BitRows::new(3, 70);
-            /// table.set(1, 69, true);
-            /// assert!(table.get(1, 69) && !table.get(2, 69) && !table.get(3, 70));
-            /// ```
-            #[inline]
-            #[must_use]
-            pub fn get(&self, row: usize, column: usize) -> bool {
-                row < self.rows() && self.table.as_rows().get(row, column)
-            }
-
-            /// Sets the bit of the row at the column, or clears it where `enabled` is false.
-            ///
-            /// **Panics** where the table has no such row or no such column.
-            ///
-            /// Proved: what it leaves, for each row and column of the table ([contract](crate::contracts#bitrowsrowsmutset)).
-            ///
-            /// ```
-            /// # use fixedbitset::BitRows;
-            /// let mut table = BitRows::new(3, 70);
-            /// table.set(1, 69, true);
-            /// table.set(1, 3, true);
-            /// table.set(1, 69, false);
-            /// assert_eq!(table.row(1).collect::<Vec<_>>(), [3]);
-            /// ```
-            #[inline]
-            #[track_caller]
-            pub fn set(&mut self, row: usize, column: usize, enabled: bool) {
+            fn lent(&mut self) -> tables::RowsMut<'_> {
                 let (rows, columns) = (self.rows(), self.columns());
-                if row >= rows || column >= columns {
-                    panics::no_cell(row, column, rows, columns);
-                }
-                self.table.set(row, column, enabled);
-            }
-
-            /// Row `into` takes in the bits of row `from`, and the other rows stay. It returns whether a bit came in. Where the
-            /// two are one row, nothing changes.
-            ///
-            /// **Panics** where the table has not both rows.
-            ///
-            /// Proved: the result and what it leaves, for any two rows of the table
-            /// ([contract](crate::contracts#bitrowsrowsmutunion_rows)).
-            ///
-            /// ```
-            /// # use fixedbitset::BitRows;
-            /// let mut table = BitRows::new(3, 70);
-            /// table.set(0, 69, true);
-            /// assert!(table.union_rows(0, 2) && !table.union_rows(0, 2));
-            /// assert!(table.get(2, 69) && !table.get(1, 69));
-            /// ```
-            #[inline]
-            #[track_caller]
-            pub fn union_rows(&mut self, from: usize, into: usize) -> bool {
-                let rows = self.rows();
-                if from >= rows || into >= rows {
-                    panics::no_pair(from, into, rows);
-                }
-                self.table.union_rows(from, into)
+                let words = &mut self.table.words;
+                tables::RowsMut { words, rows, columns }
             }
 
             /// The columns at which the row has a bit, in ascending order.
@@ -239,10 +105,7 @@ macro_rules! tables {
             #[must_use]
             #[track_caller]
             pub fn row_bits(&self, row: usize) -> Bits<'_> {
-                let rows = self.rows();
-                if row >= rows {
-                    panics::no_row(row, rows);
-                }
+                self.assert_row(row);
                 let view = self.table.as_rows().row(row);
                 Bits { view }
             }
@@ -251,7 +114,8 @@ macro_rules! tables {
             ///
             /// **Panics** where the table has no such row.
             ///
-            /// Not proved: it returns the words of the row.
+            /// Proved: the set, for each row of the table ([contract](crate::contracts#bitrowsrowsmutrow_mut)). That the table
+            /// has what is left of it, and its other rows as they were, is not.
             ///
             /// ```
             /// # use fixedbitset::{BitRows, FixedBitSet};
@@ -263,13 +127,8 @@ macro_rules! tables {
             #[inline]
             #[track_caller]
             pub fn row_bits_mut(&mut self, row: usize) -> BitsMut<'_> {
-                let (rows, length) = (self.rows(), self.columns());
-                if row >= rows {
-                    panics::no_row(row, rows);
-                }
-                let width = storage_words(length);
-                let words = &mut self.table.words[row * width..][..width];
-                let view = views::BitsMut { words, length };
+                self.assert_row(row);
+                let view = self.lent().row_mut(row);
                 BitsMut { view }
             }
 
@@ -278,7 +137,8 @@ macro_rules! tables {
             ///
             /// **Panics** where `at` is greater than the number of rows.
             ///
-            /// Not proved: it splits the words between two rows.
+            /// Proved: both parts, for each number of rows that the table has
+            /// ([contract](crate::contracts#bitrowsrowsmutsplit_at_mut)). That the table has what is left of them is not.
             ///
             /// ```
             /// # use fixedbitset::BitRows;
@@ -292,13 +152,11 @@ macro_rules! tables {
             #[must_use]
             #[track_caller]
             pub fn split_rows_mut(&mut self, at: usize) -> (RowsMut<'_>, RowsMut<'_>) {
-                let (rows, columns) = (self.rows(), self.columns());
-                if at > rows {
-                    panics::no_row(at, rows);
+                if at > self.rows() {
+                    panics::no_row(at, self.rows());
                 }
-                let (low, high) = self.table.words.split_at_mut(at * storage_words(columns));
-                let part = |words, rows| RowsMut { table: tables::RowsMut { words, rows, columns } };
-                (part(low, at), part(high, rows - at))
+                let (low, high) = self.lent().split_at_mut(at);
+                (RowsMut { table: low }, RowsMut { table: high })
             }
         }
 

@@ -1,7 +1,7 @@
 //! Sets over words that someone else owns. Upstream has none.
 use crate::proved::bitlanes::Steps;
 use crate::proved::fixedbitset::{set, views};
-use crate::{panics, ArrayBitSet, Block, FixedBitSet};
+use crate::{Block, FixedBitSet};
 use core::cmp::Ordering;
 use core::hash::{Hash, Hasher};
 
@@ -75,108 +75,7 @@ pub const fn storage_words(bits: usize) -> usize {
     views::storage_words(bits)
 }
 
-impl<'a> Bits<'a> {
-    /// The words as a set of this length, or `None` where they are not those of one as they stand: [`storage_words`] of them,
-    /// and no bit past the length.
-    ///
-    /// Proved: the result, for all words and all numbers ([contract](crate::contracts#fixedbitsetbitsover)).
-    ///
-    /// ```
-    /// # use fixedbitset::Bits;
-    /// assert!(Bits::over(&[8, 63, 0, 0], 70).is_some());
-    /// assert!(Bits::over(&[8, 64, 0, 0], 70).is_none());
-    /// assert!(Bits::over(&[8, 63], 70).is_none());
-    /// ```
-    #[inline]
-    #[must_use]
-    pub fn over(words: &'a [Block], length: usize) -> Option<Self> {
-        let view = views::Bits::over(words, length)?;
-        Some(Bits { view })
-    }
-}
-
-impl<'a> BitsMut<'a> {
-    /// [`Bits::over`], to be changed. [`settle`](Self::settle) clears what this refuses.
-    ///
-    /// Proved: the result, for all words and all numbers ([contract](crate::contracts#fixedbitsetbitsmutover)).
-    ///
-    /// ```
-    /// # use fixedbitset::BitsMut;
-    /// let mut words = [8, 64, 0, 0];
-    /// assert!(BitsMut::over(&mut words, 70).is_none());
-    /// BitsMut::over(&mut words, 71).unwrap().remove(70);
-    /// assert_eq!(words, [8, 0, 0, 0]);
-    /// ```
-    #[inline]
-    #[must_use]
-    pub fn over(words: &'a mut [Block], length: usize) -> Option<Self> {
-        let view = views::BitsMut::over(words, length)?;
-        Some(BitsMut { view })
-    }
-
-    /// Makes any words those of a set of this length: of the positions that they have those below `kept` stay.
-    ///
-    /// So with `kept` 0 no position is set, with `kept` the length none below it is lost, and with the length of before the set
-    /// has grown. It writes the word of `kept` and those after it.
-    ///
-    /// **Panics** where there are not [`storage_words`] of them, and where `kept` is past the length.
-    ///
-    /// Proved: what it leaves, for all words of this count ([contract](crate::contracts#fixedbitsetbitsmutsettle)).
-    ///
-    /// ```
-    /// # use fixedbitset::BitsMut;
-    /// let mut words = [8, 255, 1, 0];
-    /// BitsMut::settle(&mut words, 70, 66);
-    /// assert_eq!(words, [8, 3, 0, 0]);
-    /// ```
-    #[inline]
-    #[must_use]
-    #[track_caller]
-    pub fn settle(words: &'a mut [Block], length: usize, kept: usize) -> Self {
-        if words.len() != storage_words(length) {
-            panics::miscounted(words.len(), length);
-        }
-        if kept > length {
-            panics::past("keep below", kept, length);
-        }
-        let view = views::BitsMut::settle(words, length, kept);
-        BitsMut { view }
-    }
-
-    /// The set, to be read.
-    ///
-    /// Proved: that it is the same set ([contract](crate::contracts#fixedbitsetbitsmutas_bits)).
-    ///
-    /// ```
-    /// # use fixedbitset::BitsMut;
-    /// let mut words = [8, 1, 0, 0];
-    /// let set = BitsMut::over(&mut words, 70).unwrap();
-    /// assert_eq!(set.as_bits().count_ones(..), 2);
-    /// ```
-    #[inline]
-    #[must_use]
-    pub fn as_bits(&self) -> Bits<'_> {
-        let view = self.view.as_bits();
-        Bits { view }
-    }
-}
-
 impl FixedBitSet {
-    /// The set as one over borrowed words, to be read.
-    ///
-    /// Proved: the view, for all sets ([contract](crate::contracts#fixedbitsetfixedbitsetas_bits)).
-    ///
-    /// ```
-    /// # use fixedbitset::{Bits, FixedBitSet};
-    /// let set: FixedBitSet = [0, 3].into_iter().collect();
-    /// assert_eq!(set.as_bits(), Bits::over(&[9, 0, 0, 0], 4).unwrap());
-    /// ```
-    #[inline]
-    #[must_use]
-    pub fn as_bits(&self) -> Bits<'_> {
-        lent(&self.set)
-    }
-
     /// The set as one over borrowed words, to be changed. Its length stays.
     ///
     /// Not proved: it returns the words that are kept.
@@ -254,21 +153,12 @@ impl Hash for Bits<'_> {
     }
 }
 
-/// Declares that a set feeds a hasher what its view feeds.
-macro_rules! hashes {
-    ($($name:ty $(where [$($of:tt)*])?;)*) => { $(
-        /// Proved: the words ([contract](crate::contracts#fixedbitsetbitsas_slice)). That they are fed after the length is not.
-        impl$(<$($of)*>)? Hash for $name {
-            #[inline]
-            fn hash<H: Hasher>(&self, state: &mut H) {
-                self.as_bits().hash(state);
-            }
-        }
-    )* };
-}
-hashes! {
-    FixedBitSet;
-    ArrayBitSet<WORDS> where [const WORDS: usize];
+/// Proved: the words ([contract](crate::contracts#fixedbitsetbitsas_slice)). That they are fed after the length is not.
+impl Hash for FixedBitSet {
+    #[inline]
+    fn hash<H: Hasher>(&self, state: &mut H) {
+        self.as_bits().hash(state);
+    }
 }
 
 /// Proved: the result, for any two sets ([contract](crate::contracts#fixedbitsetbitsis_equal)). A set with a view on its right
