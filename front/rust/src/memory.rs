@@ -43,14 +43,11 @@ impl Display for ExtendFault {
 }
 
 /// What a call returns that may fail to allocate, for one that ends the program then.
-pub(crate) trait OrAbort {
-    type Made;
-    fn or_abort(self) -> Self::Made;
+pub(crate) trait OrAbort<T> {
+    fn or_abort(self) -> T;
 }
 
-impl<T> OrAbort for Result<T, AllocError> {
-    type Made = T;
-
+impl<T> OrAbort<T> for Result<T, AllocError> {
     #[inline]
     #[track_caller]
     fn or_abort(self) -> T {
@@ -61,9 +58,7 @@ impl<T> OrAbort for Result<T, AllocError> {
     }
 }
 
-impl<T> OrAbort for Result<T, ExtendFault> {
-    type Made = T;
-
+impl<T> OrAbort<T> for Result<T, ExtendFault> {
     #[inline]
     #[track_caller]
     fn or_abort(self) -> T {

@@ -1,4 +1,5 @@
 //! The length of a set over borrowed words, the ends of a range of it, and the panics of the calls that read one.
+use crate::changes::asserts;
 use crate::{panics, Bits, IndexRange};
 
 impl Bits<'_> {
@@ -31,21 +32,16 @@ impl Bits<'_> {
         self.len() == 0
     }
 
-    /// The panic of a list of results that is not as long as that of the positions.
-    #[inline]
-    #[track_caller]
-    pub(crate) fn assert_like(self, positions: &[usize], answers: &[bool]) {
-        if positions.len() != answers.len() {
-            panics::unlike(answers.len(), positions.len());
-        }
+    asserts! {
+        /// The panic of a list of results that is not as long as that of the positions.
+        assert_like(&self, positions: &[usize], answers: &[bool])
+            positions.len() != answers.len() => panics::unlike(answers.len(), positions.len());
     }
 
     #[inline]
     pub(crate) fn ends<T: IndexRange>(self, range: &T) -> (usize, usize) {
-        (
-            range.start().unwrap_or(0),
-            range.end().unwrap_or(self.len()),
-        )
+        let start = range.start().unwrap_or(0);
+        (start, range.end().unwrap_or(self.len()))
     }
 
     /// The ends of a range, which has to be valid.

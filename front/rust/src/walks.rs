@@ -8,129 +8,6 @@ use crate::{panics, ArrayBitSet, Bits, Block, FixedBitSet};
 use core::fmt::{Debug, Formatter, Result};
 use core::iter::FusedIterator;
 
-/// The iterator of [`FixedBitSet::ones`](crate::FixedBitSet::ones) and of [`FixedBitSet::ones_in`](crate::FixedBitSet::ones_in).
-///
-/// Proved: each item that it gives, in any mix of calls from both ends
-/// ([contract](crate::contracts#fixedbitsetbitsones)).
-///
-/// ```
-/// # use fixedbitset::FixedBitSet;
-/// let set: FixedBitSet = [9, 3, 70].into_iter().collect();
-/// let mut walk = set.ones();
-/// assert_eq!((walk.next_back(), format!("{walk:?}")), (Some(70), "{3, 9}".to_string()));
-/// ```
-#[derive(Clone)]
-pub struct Ones<'a> {
-    pub(crate) walk: Cursor<Plain<'a>>,
-}
-
-/// The iterator of [`FixedBitSet::into_ones`](crate::FixedBitSet::into_ones).
-///
-/// Proved: each item that it gives, in any mix of calls from both ends
-/// ([contract](crate::contracts#bitwordscursorscursorover)).
-///
-/// ```
-/// # use fixedbitset::{FixedBitSet, IntoOnes};
-/// let walk: IntoOnes = FixedBitSet::with_capacity(10).into_ones();
-/// assert_eq!(walk.count(), 0);
-/// ```
-pub struct IntoOnes {
-    pub(crate) walk: bitwalks::IntoOnes,
-}
-
-/// The iterator of [`FixedBitSet::zeroes`](crate::FixedBitSet::zeroes) and of
-/// [`FixedBitSet::zeroes_in`](crate::FixedBitSet::zeroes_in).
-///
-/// Proved: each item that it gives, in any mix of calls from both ends
-/// ([contract](crate::contracts#fixedbitsetbitszeroes)).
-///
-/// ```
-/// # use fixedbitset::FixedBitSet;
-/// let mut walk = FixedBitSet::with_capacity(10);
-/// assert_eq!(walk.zeroes().next_back(), Some(9));
-/// ```
-#[derive(Clone)]
-pub struct Zeroes<'a> {
-    pub(crate) walk: Cursor<Inverted<'a>>,
-}
-
-/// The iterator of [`FixedBitSet::intersection`](crate::FixedBitSet::intersection).
-///
-/// Proved: each item that it gives, in any mix of calls from both ends
-/// ([contract](crate::contracts#fixedbitsetbitsintersection)).
-///
-/// ```
-/// # use fixedbitset::FixedBitSet;
-/// let set: FixedBitSet = [1, 3].into_iter().collect();
-/// assert_eq!(set.intersection(&set).next_back(), Some(3));
-/// ```
-#[derive(Clone)]
-pub struct Intersection<'a> {
-    pub(crate) walk: Cursor<Beside<'a, And>>,
-}
-
-/// The iterator of [`FixedBitSet::difference`](crate::FixedBitSet::difference).
-///
-/// Proved: each item that it gives, in any mix of calls from both ends
-/// ([contract](crate::contracts#fixedbitsetbitsdifference)).
-///
-/// ```
-/// # use fixedbitset::FixedBitSet;
-/// let set: FixedBitSet = [1, 3].into_iter().collect();
-/// assert_eq!(set.difference(&FixedBitSet::new()).next_back(), Some(3));
-/// ```
-#[derive(Clone)]
-pub struct Difference<'a> {
-    pub(crate) walk: Cursor<Beside<'a, AndNot>>,
-}
-
-/// The iterator of [`FixedBitSet::union`](crate::FixedBitSet::union). From the back it begins with what the second set alone has.
-///
-/// Proved: each item that it gives, in any mix of calls from both ends
-/// ([first](crate::contracts#bitwalksin_turninturntake_first), [last](crate::contracts#bitwalksin_turninturntake_last)).
-///
-/// ```
-/// # use fixedbitset::FixedBitSet;
-/// let (set, other): (FixedBitSet, FixedBitSet) = ([1, 3].into_iter().collect(), [2, 3].into_iter().collect());
-/// assert_eq!(set.union(&other).next_back(), Some(2));
-/// ```
-#[derive(Clone)]
-pub struct Union<'a> {
-    pub(crate) walk: InTurn<Cursor<Plain<'a>>, Cursor<Beside<'a, AndNot>>>,
-}
-
-/// The iterator of [`FixedBitSet::symmetric_difference`](crate::FixedBitSet::symmetric_difference). From the back it begins with
-/// what the second set alone has.
-///
-/// Proved: each item that it gives, in any mix of calls from both ends
-/// ([first](crate::contracts#bitwalksin_turninturntake_first), [last](crate::contracts#bitwalksin_turninturntake_last)).
-///
-/// ```
-/// # use fixedbitset::FixedBitSet;
-/// let (set, other): (FixedBitSet, FixedBitSet) = ([1, 3].into_iter().collect(), [2, 3].into_iter().collect());
-/// assert_eq!(set.symmetric_difference(&other).next_back(), Some(2));
-/// ```
-#[derive(Clone)]
-pub struct SymmetricDifference<'a> {
-    pub(crate) walk: InTurn<Cursor<Beside<'a, AndNot>>, Cursor<Beside<'a, AndNot>>>,
-}
-
-/// The iterator of [`FixedBitSet::runs`](crate::FixedBitSet::runs) and of
-/// [`FixedBitSet::zero_runs`](crate::FixedBitSet::zero_runs).
-///
-/// Proved: each run that it gives, in any mix of calls from both ends ([contract](crate::contracts#fixedbitsetbitsruns)).
-///
-/// ```
-/// # use fixedbitset::FixedBitSet;
-/// let set: FixedBitSet = [3, 4, 9].into_iter().collect();
-/// let mut walk = set.runs();
-/// assert_eq!((walk.next_back(), format!("{walk:?}")), (Some((9, 10)), "[(3, 5)]".to_string()));
-/// ```
-#[derive(Clone)]
-pub struct Runs<'a> {
-    pub(crate) walk: bitwalks::Runs<'a>,
-}
-
 /// The calls of an iterator that ascends. `last` and `max` are one call from the back.
 macro_rules! ascending {
     () => {
@@ -211,9 +88,19 @@ macro_rules! apart {
     };
 }
 
-/// The traits of iterators: of each its item, the calls from its ends, how its text lists the items, and its other calls.
+/// Declares iterators over proved ones, with their traits: of each its item, the calls from its ends, how its text lists the
+/// items, and its other calls.
 macro_rules! walks {
-    ($($name:ty: $item:ty, $first:ident, $last:ident, $listed:ident, $others:ident;)*) => { $(
+    ($(
+        $(#[$head:meta])*
+        pub struct $name:ident$(<$life:lifetime>)?: $walk:ty
+            => $item:ty, $first:ident, $last:ident, $listed:ident, $others:ident;
+    )*) => { $(
+        $(#[$head])*
+        pub struct $name$(<$life>)? {
+            pub(crate) walk: $walk,
+        }
+
         /// Proved: each item, the hint of size and the count, for any mix of calls from both ends: of
         /// [one iterator](crate::contracts#bitwordscursorscursor-as-iterator), whose count is
         /// [count_left](crate::contracts#bitwordscursorscursorcount_left), and of
@@ -222,7 +109,7 @@ macro_rules! walks {
         /// [count_left](crate::contracts#bitwalksin_turninturncount_left); each item of
         /// [runs](crate::contracts#bitwalksruns-as-iterator). Other calls are put together from these. The hint of runs is not
         /// proved: half of the positions that are left.
-        impl Iterator for $name {
+        impl$(<$life>)? Iterator for $name$(<$life>)? {
             type Item = $item;
 
             #[inline]
@@ -237,7 +124,7 @@ macro_rules! walks {
         /// [one iterator](crate::contracts#bitwordscursorscursor-as-doubleendediterator), of
         /// [two in turn](crate::contracts#bitwalksin_turninturntake_last), of
         /// [runs](crate::contracts#bitwalksruns-as-doubleendediterator).
-        impl DoubleEndedIterator for $name {
+        impl$(<$life>)? DoubleEndedIterator for $name$(<$life>)? {
             #[inline]
             fn next_back(&mut self) -> Option<$item> {
                 self.walk.$last()
@@ -246,12 +133,12 @@ macro_rules! walks {
 
         /// Proved: that no item follows the first `None`: of [one iterator](crate::contracts#bitwordscursorscursor-as-iterator), of
         /// [two in turn](crate::contracts#bitwalksin_turninturntake_first), of [runs](crate::contracts#bitwalksruns-as-iterator).
-        impl FusedIterator for $name {}
+        impl$(<$life>)? FusedIterator for $name$(<$life>)? {}
 
         /// Proved: the items: of [one iterator](crate::contracts#bitwordscursorscursor-as-iterator), of
         /// [two in turn](crate::contracts#bitwalksin_turninturntake_first), of [runs](crate::contracts#bitwalksruns-as-iterator).
         /// The text around them is not.
-        impl Debug for $name {
+        impl$(<$life>)? Debug for $name$(<$life>)? {
             /// The items that are left.
             fn fmt(&self, f: &mut Formatter<'_>) -> Result {
                 let walk = self.walk.clone();
@@ -261,14 +148,116 @@ macro_rules! walks {
     )* };
 }
 walks! {
-    Ones<'_>: usize, next, next_back, debug_set, ascending;
-    Zeroes<'_>: usize, next, next_back, debug_set, ascending;
-    Intersection<'_>: usize, next, next_back, debug_set, ascending;
-    Difference<'_>: usize, next, next_back, debug_set, ascending;
-    IntoOnes: usize, next, next_back, debug_set, ascending;
-    Union<'_>: usize, take_first, take_last, debug_set, in_turn;
-    SymmetricDifference<'_>: usize, take_first, take_last, debug_set, in_turn;
-    Runs<'_>: (usize, usize), next, next_back, debug_list, apart;
+    /// The iterator of [`FixedBitSet::ones`](crate::FixedBitSet::ones) and of [`FixedBitSet::ones_in`](crate::FixedBitSet::ones_in).
+    ///
+    /// Proved: each item that it gives, in any mix of calls from both ends
+    /// ([contract](crate::contracts#fixedbitsetbitsones)).
+    ///
+    /// ```
+    /// # use fixedbitset::FixedBitSet;
+    /// let set: FixedBitSet = [9, 3, 70].into_iter().collect();
+    /// let mut walk = set.ones();
+    /// assert_eq!((walk.next_back(), format!("{walk:?}")), (Some(70), "{3, 9}".to_string()));
+    /// ```
+    #[derive(Clone)]
+    pub struct Ones<'a>: Cursor<Plain<'a>> => usize, next, next_back, debug_set, ascending;
+
+    /// The iterator of [`FixedBitSet::zeroes`](crate::FixedBitSet::zeroes) and of
+    /// [`FixedBitSet::zeroes_in`](crate::FixedBitSet::zeroes_in).
+    ///
+    /// Proved: each item that it gives, in any mix of calls from both ends
+    /// ([contract](crate::contracts#fixedbitsetbitszeroes)).
+    ///
+    /// ```
+    /// # use fixedbitset::FixedBitSet;
+    /// let mut walk = FixedBitSet::with_capacity(10);
+    /// assert_eq!(walk.zeroes().next_back(), Some(9));
+    /// ```
+    #[derive(Clone)]
+    pub struct Zeroes<'a>: Cursor<Inverted<'a>> => usize, next, next_back, debug_set, ascending;
+
+    /// The iterator of [`FixedBitSet::intersection`](crate::FixedBitSet::intersection).
+    ///
+    /// Proved: each item that it gives, in any mix of calls from both ends
+    /// ([contract](crate::contracts#fixedbitsetbitsintersection)).
+    ///
+    /// ```
+    /// # use fixedbitset::FixedBitSet;
+    /// let set: FixedBitSet = [1, 3].into_iter().collect();
+    /// assert_eq!(set.intersection(&set).next_back(), Some(3));
+    /// ```
+    #[derive(Clone)]
+    pub struct Intersection<'a>: Cursor<Beside<'a, And>>
+        => usize, next, next_back, debug_set, ascending;
+
+    /// The iterator of [`FixedBitSet::difference`](crate::FixedBitSet::difference).
+    ///
+    /// Proved: each item that it gives, in any mix of calls from both ends
+    /// ([contract](crate::contracts#fixedbitsetbitsdifference)).
+    ///
+    /// ```
+    /// # use fixedbitset::FixedBitSet;
+    /// let set: FixedBitSet = [1, 3].into_iter().collect();
+    /// assert_eq!(set.difference(&FixedBitSet::new()).next_back(), Some(3));
+    /// ```
+    #[derive(Clone)]
+    pub struct Difference<'a>: Cursor<Beside<'a, AndNot>>
+        => usize, next, next_back, debug_set, ascending;
+
+    /// The iterator of [`FixedBitSet::into_ones`](crate::FixedBitSet::into_ones).
+    ///
+    /// Proved: each item that it gives, in any mix of calls from both ends
+    /// ([contract](crate::contracts#bitwordscursorscursorover)).
+    ///
+    /// ```
+    /// # use fixedbitset::{FixedBitSet, IntoOnes};
+    /// let walk: IntoOnes = FixedBitSet::with_capacity(10).into_ones();
+    /// assert_eq!(walk.count(), 0);
+    /// ```
+    pub struct IntoOnes: bitwalks::IntoOnes => usize, next, next_back, debug_set, ascending;
+
+    /// The iterator of [`FixedBitSet::union`](crate::FixedBitSet::union). From the back it begins with what the second set alone has.
+    ///
+    /// Proved: each item that it gives, in any mix of calls from both ends
+    /// ([first](crate::contracts#bitwalksin_turninturntake_first), [last](crate::contracts#bitwalksin_turninturntake_last)).
+    ///
+    /// ```
+    /// # use fixedbitset::FixedBitSet;
+    /// let (set, other): (FixedBitSet, FixedBitSet) = ([1, 3].into_iter().collect(), [2, 3].into_iter().collect());
+    /// assert_eq!(set.union(&other).next_back(), Some(2));
+    /// ```
+    #[derive(Clone)]
+    pub struct Union<'a>: InTurn<Cursor<Plain<'a>>, Cursor<Beside<'a, AndNot>>>
+        => usize, take_first, take_last, debug_set, in_turn;
+
+    /// The iterator of [`FixedBitSet::symmetric_difference`](crate::FixedBitSet::symmetric_difference). From the back it begins with
+    /// what the second set alone has.
+    ///
+    /// Proved: each item that it gives, in any mix of calls from both ends
+    /// ([first](crate::contracts#bitwalksin_turninturntake_first), [last](crate::contracts#bitwalksin_turninturntake_last)).
+    ///
+    /// ```
+    /// # use fixedbitset::FixedBitSet;
+    /// let (set, other): (FixedBitSet, FixedBitSet) = ([1, 3].into_iter().collect(), [2, 3].into_iter().collect());
+    /// assert_eq!(set.symmetric_difference(&other).next_back(), Some(2));
+    /// ```
+    #[derive(Clone)]
+    pub struct SymmetricDifference<'a>: InTurn<Cursor<Beside<'a, AndNot>>, Cursor<Beside<'a, AndNot>>>
+        => usize, take_first, take_last, debug_set, in_turn;
+
+    /// The iterator of [`FixedBitSet::runs`](crate::FixedBitSet::runs) and of
+    /// [`FixedBitSet::zero_runs`](crate::FixedBitSet::zero_runs).
+    ///
+    /// Proved: each run that it gives, in any mix of calls from both ends ([contract](crate::contracts#fixedbitsetbitsruns)).
+    ///
+    /// ```
+    /// # use fixedbitset::FixedBitSet;
+    /// let set: FixedBitSet = [3, 4, 9].into_iter().collect();
+    /// let mut walk = set.runs();
+    /// assert_eq!((walk.next_back(), format!("{walk:?}")), (Some((9, 10)), "[(3, 5)]".to_string()));
+    /// ```
+    #[derive(Clone)]
+    pub struct Runs<'a>: bitwalks::Runs<'a> => (usize, usize), next, next_back, debug_list, apart;
 }
 
 /// Declares that `for position in set` goes over the positions of the set.
