@@ -23,6 +23,10 @@ class Owner:
         """The field of the proved value."""
         return self.fields.split(", ")[-1]
 
+    def module(self):
+        """The module of the proved type."""
+        return self.modules[0] if self.modules else "views"
+
 
 @dataclasses.dataclass(frozen=True)
 class Form:
@@ -102,7 +106,8 @@ use crate::{AllocError, BitRows, Bits, FixedBitSet, Ranks, RowsMut, Slots};
 
 impl<'a> Ranks<'a> {
 """, crate="bitranks", modules=("ranks",), fields="set, ranks"),
-    "Slots": Owner("published_structures.rs", "\n#[allow(clippy::len_without_is_empty)]\nimpl Slots {\n", crate="bitslots", modules=("slots",), fields="slots", value="slots"),
+    "Slots": Owner("published_structures.rs", "\n#[allow(clippy::len_without_is_empty)]\nimpl Slots {\n", crate="bitslots",
+                   modules=("slots",), fields="slots", value="slots"),
     "BitRows": Owner("published_structures.rs", "\nimpl BitRows {\n", crate="bitrows", modules=("table",), fields="table", value="table",
                      panics="its words would be more than a vector can have"),
     "RowsMut": Owner("published_structures.rs", "\nimpl RowsMut<'_> {\n", crate="bitrows", fields="table", value="table"),
@@ -119,7 +124,7 @@ TRACK = "    #[track_caller]\n"
 MUST = "    #[must_use]\n"
 CALL = "self.view.{name}({handed})"
 # A call of a set by its own, on a set and on none, and what stands before one of a view that changes a range.
-SET, OF_SETS = "self.{own}.", "{path}::"
+SET, OF_SETS = "self.{own}.", "{module}::{owner}::"
 DIRECT = "        let (start, end) = self.as_bits().part(&range);\n"
 
 OF_RESULT = "the length is not that of the result"
@@ -199,7 +204,8 @@ SET_FORMS = {
     ("IsTaken self slot",): Form("self.assert_taken(self.is_taken(slot), slot, 1);", "it is not taken"),
     ("IsTakenStretch self count start",): Form(
         "self.assert_taken(self.slots.is_taken_stretch(start, count), start, count);", "one of them is not taken"),
-    ("row < length self.rows", "column < self.columns"): Form("self.assert_cell(row, column);", "the table has no such row or no such column"),
+    ("row < length self.rows", "column < self.columns"): Form(
+        "self.assert_cell(row, column);", "the table has no such row or no such column"),
     ("from < length self.rows", "into < length self.rows"): Form("self.assert_pair(from, into);", "the table has not both rows"),
 }
 # (`{}` in a type stands for the name.)
@@ -259,8 +265,8 @@ PARTS = {
 }
 # Sentences with one of these speak of what the call of the crate has not.
 # (The allocator zeroes a new row that is long, so nothing is written.)
-LEFT_OUT = ("`Err`", "So it is where there would be", "It writes each word once: a row", "`counted::close`", "The set is then as it was.", "(`range_is_valid`)", "`to_value`", "It writes `bits / 64` words",
-            "It writes each word as 0")
+LEFT_OUT = ("`Err`", "The set is then as it was.", "(`range_is_valid`)", "`to_value`", "It writes `bits / 64` words",
+            "It writes each word as 0", "It writes each word once: a row", "So it is where there would be", "`counted::close`")
 
 # Calls of a walk in turn that have another name as Rust's traits have them.
 RENAMED = {"take_first": "next", "take_last": "next_back"}

@@ -138,7 +138,7 @@ macro_rules! tables {
             /// **Panics** where `at` is greater than the number of rows.
             ///
             /// Proved: both parts, for each number of rows that the table has
-            /// ([contract](crate::contracts#bitrowsrowsmutsplit_at_mut)). That the table has what is left of them is not.
+            /// ([contract](crate::contracts#bitrowsrowsmutsplit_rows_mut)). That the table has what is left of them is not.
             ///
             /// ```
             /// # use fixedbitset::BitRows;
@@ -155,7 +155,7 @@ macro_rules! tables {
                 if at > self.rows() {
                     panics::no_row(at, self.rows());
                 }
-                let (low, high) = self.lent().split_at_mut(at);
+                let (low, high) = self.lent().split_rows_mut(at);
                 (RowsMut { table: low }, RowsMut { table: high })
             }
         }

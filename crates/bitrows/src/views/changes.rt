@@ -97,13 +97,13 @@ impl<'a> RowsMut<'a> {
     /// ```
     /// let mut words = [7; 8];
     /// let table = RowsMut::blank(&mut words, 2, 70);
-    /// let (mut low, mut high) = table.split_at_mut(1);
+    /// let (mut low, mut high) = table.split_rows_mut(1);
     /// low.set(0, 3, true);
     /// high.set(0, 64, true);
     /// assert_eq!(rt; words, [8, 0, 0, 0, 0, 1, 0, 0]);
     /// ```
     #[inline(always)]
-    pub fn split_at_mut(self, at: usize) -> (RowsMut<'a>, RowsMut<'a>)
+    pub fn split_rows_mut(self, at: usize) -> (RowsMut<'a>, RowsMut<'a>)
         requires { at ≤ self.rows }
         ensures low { held result.0 ≡ rows_before (held self.entry) at }
         ensures high { held result.1 ≡ rows_from (held self.entry) at }

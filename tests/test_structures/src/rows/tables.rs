@@ -98,7 +98,7 @@ fn each_row_by_itself_in_two_parts(rt: HostRuntime) -> Result<(), Fail> {
             for own in 0..4 {
                 let mut words = vec![in rt.alloc(); 1; 4 * storage_words(columns)]?;
                 let (low, high) =
-                    RowsMut::blank(words.as_mut_slice(), 4, columns).split_at_mut(at);
+                    RowsMut::blank(words.as_mut_slice(), 4, columns).split_rows_mut(at);
                 assert!(rt; low.rows == at && high.rows == 4 - at, "{columns} {at}");
                 assert!(rt; low.columns == columns && high.columns == columns, "{at}");
                 let mut row = if own < at {

@@ -74,13 +74,13 @@ impl<'a> RowsMut<'a> {
     /// ```text
     /// let mut words = [7; 8];
     /// let table = RowsMut::blank(&mut words, 2, 70);
-    /// let (mut low, mut high) = table.split_at_mut(1);
+    /// let (mut low, mut high) = table.split_rows_mut(1);
     /// low.set(0, 3, true);
     /// high.set(0, 64, true);
     /// assert_eq!(words, [8, 0, 0, 0, 0, 1, 0, 0]);
     /// ```
     #[inline(always)]
-    pub fn split_at_mut(self, at: usize) -> (RowsMut<'a>, RowsMut<'a>) {
+    pub fn split_rows_mut(self, at: usize) -> (RowsMut<'a>, RowsMut<'a>) {
         let RowsMut {
             words,
             rows,

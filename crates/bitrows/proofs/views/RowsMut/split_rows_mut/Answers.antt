@@ -1,5 +1,5 @@
 use Rattle.bitrows.proofs.RowWords.{are_rows-low, are_rows-high, table_of-low, table_of-high}
-use Rattle.bitrows.proofs.views.RowsMut.split_at_mut.Goals as goal
+use Rattle.bitrows.proofs.views.RowsMut.split_rows_mut.Goals as goal
 
 pub invariant_of-first : goal.invariant_of-first
 invariant_of-first c =
