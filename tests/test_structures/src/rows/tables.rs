@@ -97,8 +97,8 @@ fn each_row_by_itself_in_two_parts(rt: HostRuntime) -> Result<(), Fail> {
         for at in 0..5 {
             for own in 0..4 {
                 let mut words = vec![in rt.alloc(); 1; 4 * storage_words(columns)]?;
-                let (low, high) =
-                    RowsMut::blank(words.as_mut_slice(), 4, columns).split_rows_mut(at);
+                let table = RowsMut::blank(words.as_mut_slice(), 4, columns);
+                let (low, high) = table.split_rows_mut(at);
                 assert!(rt; low.rows == at && high.rows == 4 - at, "{columns} {at}");
                 assert!(rt; low.columns == columns && high.columns == columns, "{at}");
                 let mut row = if own < at {
@@ -124,7 +124,11 @@ fn assert_own(rt: &impl Abort, words: &[Block], columns: usize, own: usize) {
     };
     for row in 0..4 {
         for column in 0..columns {
-            assert_eq!(rt; table.get(row, column), row == own, "{columns} {own} {column}");
+            assert_eq!(rt;
+                table.get(row, column),
+                row == own,
+                "{columns} {own} {column}"
+            );
         }
     }
 }
