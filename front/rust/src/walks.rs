@@ -8,7 +8,7 @@ use crate::{panics, ArrayBitSet, Bits, Block, FixedBitSet};
 use core::fmt::{Debug, Formatter, Result};
 use core::iter::FusedIterator;
 
-/// The calls of an iterator that ascends. `last` and `max` are one call from the back.
+/// The calls of an iterator that ascends. `max` is one call from the back, as `last` is of each.
 macro_rules! ascending {
     () => {
         #[inline]
@@ -19,11 +19,6 @@ macro_rules! ascending {
         #[inline]
         fn count(self) -> usize {
             self.walk.count_left(&mut Steps::new())
-        }
-
-        #[inline]
-        fn last(mut self) -> Option<usize> {
-            self.next_back()
         }
 
         #[inline]
@@ -49,11 +44,6 @@ macro_rules! in_turn {
         #[inline]
         fn count(self) -> usize {
             self.walk.count_left(&mut Steps::new())
-        }
-
-        #[inline]
-        fn last(mut self) -> Option<usize> {
-            self.next_back()
         }
 
         #[inline]
@@ -115,6 +105,11 @@ macro_rules! walks {
             #[inline]
             fn next(&mut self) -> Option<$item> {
                 self.walk.$first()
+            }
+
+            #[inline]
+            fn last(mut self) -> Option<$item> {
+                self.next_back()
             }
 
             $others!();
