@@ -103,7 +103,8 @@ impl FixedBitSet {
     ///
     /// If an allocation fails, the program ends; [`try_grow`](Self::try_grow) returns an error instead.
     ///
-    /// Proved: what it leaves, for all sets ([contract](crate::contracts#fixedbitsetfixedbitsetgrow)).
+    /// Proved: what it leaves, for all sets and all numbers
+    /// ([contract](crate::contracts#fixedbitsetfixedbitsetgrow)).
     ///
     /// ```
     /// # use fixedbitset::FixedBitSet;
@@ -120,7 +121,7 @@ impl FixedBitSet {
 
     /// [`grow`](Self::grow), which returns an error if an allocation fails. The set is then as it was.
     ///
-    /// Proved: what it leaves, also where an allocation fails, for all sets
+    /// Proved: what it leaves, also where an allocation fails, for all sets and all numbers
     /// ([contract](crate::contracts#fixedbitsetfixedbitsetgrow)).
     ///
     /// ```
@@ -1613,7 +1614,8 @@ impl FixedBitSet {
     ///
     /// It writes one word, and those up to a whole lane. Memory is kept. Upstream has no such call.
     ///
-    /// Proved: what it leaves, for all sets ([contract](crate::contracts#fixedbitsetfixedbitsettruncate)).
+    /// Proved: what it leaves, for all sets and all numbers
+    /// ([contract](crate::contracts#fixedbitsetfixedbitsettruncate)).
     ///
     /// ```
     /// # use fixedbitset::FixedBitSet;
@@ -1635,7 +1637,8 @@ impl FixedBitSet {
     ///
     /// If an allocation fails, the program ends; [`try_resize`](Self::try_resize) returns an error instead.
     ///
-    /// Proved: what it leaves, for all sets ([contract](crate::contracts#fixedbitsetfixedbitsetresize)).
+    /// Proved: what it leaves, for all sets and all numbers
+    /// ([contract](crate::contracts#fixedbitsetfixedbitsetresize)).
     ///
     /// ```
     /// # use fixedbitset::FixedBitSet;
@@ -1652,7 +1655,7 @@ impl FixedBitSet {
 
     /// [`resize`](Self::resize), which returns an error if an allocation fails. The set is then as it was.
     ///
-    /// Proved: what it leaves, also where an allocation fails, for all sets
+    /// Proved: what it leaves, also where an allocation fails, for all sets and all numbers
     /// ([contract](crate::contracts#fixedbitsetfixedbitsetresize)).
     ///
     /// ```

@@ -49,7 +49,7 @@ impl<'a> Ranks<'a> {
     ///
     /// It looks at one entry of the directory and at eight words of the set at most.
     ///
-    /// Proved: the result, for all sets ([contract](crate::contracts#bitranksranksrank)).
+    /// Proved: the result, for all sets and all numbers ([contract](crate::contracts#bitranksranksrank)).
     ///
     /// ```
     /// # use fixedbitset::{FixedBitSet, Ranks};
@@ -71,7 +71,7 @@ impl<'a> Ranks<'a> {
     /// It looks at one entry of the directory for each time that it can be halved, and at eight words of
     /// the set at most.
     ///
-    /// Proved: the result, for all sets ([contract](crate::contracts#bitranksranksselect)).
+    /// Proved: the result, for all sets and all numbers ([contract](crate::contracts#bitranksranksselect)).
     ///
     /// ```
     /// # use fixedbitset::{FixedBitSet, Ranks};
@@ -166,7 +166,7 @@ impl Slots {
     /// are free, and returns that start. `None` is returned exactly where there is no such start, and then
     /// nothing changes.
     ///
-    /// Proved: the result and what it leaves, for all slots
+    /// Proved: the result and what it leaves, for all slots and all numbers
     /// ([contract](crate::contracts#bitslotsslotstake_stretch)).
     ///
     /// ```
@@ -184,7 +184,7 @@ impl Slots {
     /// free, and returns that start. `None` is returned exactly where there is no such start, and then
     /// nothing changes. The only multiple of 0 is 0.
     ///
-    /// Proved: the result and what it leaves, for all slots
+    /// Proved: the result and what it leaves, for all slots and all numbers
     /// ([contract](crate::contracts#bitslotsslotstake_aligned_stretch)).
     ///
     /// ```
@@ -222,7 +222,8 @@ impl Slots {
 
     /// Whether the slot is taken. A slot past the end is not.
     ///
-    /// Proved: the result, for all slots ([contract](crate::contracts#bitslotsslotsis_taken)).
+    /// Proved: the result, for all slots and all numbers
+    /// ([contract](crate::contracts#bitslotsslotsis_taken)).
     ///
     /// ```
     /// # use fixedbitset::Slots;
@@ -359,7 +360,7 @@ impl BitRows {
 
     /// Whether the row has a bit at the column: `false` past the rows and past the columns.
     ///
-    /// Proved: the result, for all tables ([contract](crate::contracts#bitrowsbitrowsget)).
+    /// Proved: the result, for all tables and all numbers ([contract](crate::contracts#bitrowsbitrowsget)).
     ///
     /// ```
     /// # use fixedbitset::BitRows;
@@ -478,7 +479,7 @@ impl RowsMut<'_> {
 
     /// Whether the row has a bit at the column: `false` past the rows and past the columns.
     ///
-    /// Proved: the result, for all tables ([contract](crate::contracts#bitrowsrowsget)).
+    /// Proved: the result, for all tables and each of their rows ([contract](crate::contracts#bitrowsrowsget)).
     ///
     /// ```
     /// # use fixedbitset::BitRows;
