@@ -12,7 +12,7 @@ LISTS, SET, EXTEND = "bits_c/src/lists.rt", "fixedbitset/src/set.rt", "fixedbits
 TEXT, RANGES, TABLE = "fixedbitset/src/text.rt", "bitlanes/src/range.rt", "bitrows/src/table.rt"
 ORDER, PROBLEM, ROUNDS, SOLVER = (f"flow/src/{it}.rt" for it in ("postorder", "problem", "rounds", "solver"))
 GHOST = "    pub ghost clean: { IsClean length words.now },\n"
-BODY, EIGHT, ITEM = "    let mut eights = 0;\n", "pub(crate) const EIGHT: usize = 8 * LANE;", "pub const LANE: usize = 4;"
+BODY, EIGHT, ITEM = "    let mut sums = Sums::new();\n", "pub(crate) const EIGHT: usize = 8 * LANE;", "pub const LANE: usize = 4;"
 CLAUSE = "requires fits { sum_by count_ones a.now < 2 ^ 64 }"
 TAKEN_APART = "impl<'a> Drop for Runs<'a> {\n    #[inline]\n    fn drop(self) {\n        let Runs {\n            words: _,"
 UNKNOWN, CLOSURE, CALL, CHAIN = "is no token that is known", "a closure", "a call of a value", "a condition of several parts"

@@ -174,8 +174,8 @@ pub fn count_one(a: &[Block], steps: &mut Steps) -> usize
     ensures ones { result ≡ sum_by count_ones a.now }
     ensures cost { steps.new ≡ steps.old + lane_steps (length a.now) }
 {
-    // The count of a long row is a call that does not know that both rows are one: it reads this one
-    // once.
+    // The count of a long row is a call, which does not know that both are one row: it reads the
+    // second alone.
     count::<Second>(a, a, steps)
 }
 

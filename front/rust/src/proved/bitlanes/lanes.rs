@@ -141,8 +141,8 @@ pub fn zero(dst: &mut [Block], steps: &mut Steps) {
 /// ```
 #[inline(always)]
 pub fn count_one(a: &[Block], steps: &mut Steps) -> usize {
-    // The count of a long row is a call that does not know that both rows are one: it reads this one
-    // once.
+    // The count of a long row is a call, which does not know that both are one row: it reads the
+    // second alone.
     count::<Second>(a, a, steps)
 }
 

@@ -44,8 +44,8 @@ impl<'a> RowsMut<'a> {
         }
     }
 
-    /// A row, to be changed: a set of `columns` positions over the words of the row. The row has to be
-    /// one of the table's.
+    /// A row, to be changed: a set of `columns` positions over the words of the row. The row has to
+    /// be one of the table's.
     ///
     /// ```text
     /// let mut words = [7; 8];
@@ -68,8 +68,8 @@ impl<'a> RowsMut<'a> {
         }
     }
 
-    /// The rows before row `at`, and those from it on, each part to be changed by itself. The second
-    /// counts its rows from 0 too. The table has to have as many rows.
+    /// The rows before row `at`, and those from it on, each part to be changed by itself. The
+    /// second counts its rows from 0 too. The table has to have as many rows.
     ///
     /// ```text
     /// let mut words = [7; 8];
