@@ -242,9 +242,18 @@ pub fn clear_from(words: &mut [Block], start: usize)
     }
 }
 
-// `next` up to the end of the words.
+/// `next` up to the end of the words. The position has to be one of theirs.
+///
+/// It takes one step for its word, and one for each lane of four words after that up to the one
+/// that has the position, or up to the last where there is none.
+///
+/// ```
+/// let mut steps = Steps::new();
+/// assert_eq!(rt; positions::next_in_row::<And>(&[9, 0, 2], 4, &mut steps), Some(129));
+/// assert_eq!(rt; positions::next_in_row::<And>(&[9, 0, 2], 130, &mut steps), None);
+/// ```
 #[inline(always)]
-fn next_in_row<O: WordOp>(words: &[Block], from: usize, steps: &mut Steps) -> Option<usize>
+pub fn next_in_row<O: WordOp>(words: &[Block], from: usize, steps: &mut Steps) -> Option<usize>
     requires drops { O.TAKE ≡ false }
     requires fits { 64 * length words.now ≤ 2 ^ 64 }
     requires within { from < 64 * length words.now }

@@ -67,10 +67,23 @@ module _ (n : ℕ) (ws : List ℕ) (clean : IsClean n ws) where
       below-asc (complement v) _ n (sym (length-complement v ∙ length-of_words n ws))
       (λ p below. grind (arith, nat_tests, contains_word n ws p clean, contains-complement v p, length-of_words n ws))
 
-  pub next_one_of : (from : ℕ) (found : Option ℕ) → IfSome found (IsNext sets from n)
-      → IfNone found (NonePasses sets from n) → found ≡ next_one (of_words n ws) from
+  -- no position of the words is past the length
+  ones_in_row : ascending sets 0 (64 * length ws) ≡ asc (of_words n ws)
+  unfolding bit_test
+  ones_in_row =
+      upto-asc (of_words n ws) sets (64 * length ws) (λ p _. contains_word n ws p clean)
+      (λ p past. sym (contains_word n ws p clean) ∙ clean.tail p (omega (arith, past, clean.count)))
+
+  pub next_one_in_row : (from : ℕ) (found : Option ℕ) → IfSome found (IsNext sets from (64 * length ws))
+      → IfNone found (NonePasses sets from (64 * length ws)) → found ≡ next_one (of_words n ws) from
   unfolding next_one
-  next_one_of from found is none = next _ n from found is none ∙ ap (λ xs. slice_get (filter (nat_le from) xs) 0) ones
+  next_one_in_row from found is none =
+      next _ (64 * length ws) from found is none ∙ ap (λ xs. slice_get (filter (nat_le from) xs) 0) ones_in_row
+
+  pub no_next_one : (from : ℕ) → n ≤ from → None ≡ next_one (of_words n ws) from
+  unfolding bit_test
+  no_next_one from past =
+      next_one_in_row from None tt (λ i after _. clean.tail i (omega (arith, past, after)))
 
   pub next_zero_of : (from : ℕ) (found : Option ℕ) → IfSome found (IsNext lacks from n)
       → IfNone found (NonePasses lacks from n) → found ≡ next_zero (of_words n ws) from
@@ -89,14 +102,6 @@ module _ (n : ℕ) (ws : List ℕ) (clean : IsClean n ws) where
   unfolding previous_one previous_zero
   previous_zero_of below found is none =
       previous _ n below found is none ∙ ap (λ xs. last_or None (filter (λ p. nat_lt p below) xs)) zeroes
-
-  -- words of a set have no position past its length, so where none is found before it none is left in all of them
-  pub missed_one : {Steps : Type 0} (from : ℕ) (found : Option ℕ) → IfNone found (NonePasses sets from n)
-      → (from < n → NonePasses sets from (64 * length ws) → Steps) → IfNone found (from < n → Steps)
-  unfolding bit_test
-  missed_one from (Some p) none cost = tt
-  missed_one from None none cost =
-      λ some. cost some (λ i above below. grind (arith, nat_tests, none i above, clean.tail i))
 
 -- ---- in the words of two values
 

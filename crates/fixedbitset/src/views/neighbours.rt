@@ -26,7 +26,7 @@ impl Bits<'_> {
     /// assert_eq!(rt; set.as_bits().next_one(66, &mut Steps::new()), None);
     /// ```
     #[inline(always)]
-    #[tactic(auto, using(crate::proofs::NextPositions::next_one_of))]
+    #[tactic(auto, using(crate::proofs::NextPositions::next_one_in_row, crate::proofs::NextPositions::no_next_one))]
     pub fn next_one(self, from: usize, steps: &mut Steps) -> Option<usize>
         ensures next { result ≡ neighbours.next_one (value self.entry) from }
         ensures cost { IfSome result
@@ -37,7 +37,11 @@ impl Bits<'_> {
             + lane_steps (storage_words self.entry.length - 1 - from / 64)) }
         ensures empty { self.entry.length ≤ from → steps.new ≡ steps.old }
     {
-        positions::next::<And>(self.words, from, self.length, steps)
+        if from >= self.length {
+            return None;
+        }
+        // No bit stands past the length.
+        positions::next_in_row::<And>(self.words, from, steps)
     }
 
     /// The least position at or past `from` and below the length that is not set, or

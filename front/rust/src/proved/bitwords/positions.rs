@@ -172,9 +172,18 @@ pub fn clear_from(words: &mut [Block], start: usize) {
     }
 }
 
-// `next` up to the end of the words.
+/// `next` up to the end of the words. The position has to be one of theirs.
+///
+/// It takes one step for its word, and one for each lane of four words after that up to the one
+/// that has the position, or up to the last where there is none.
+///
+/// ```text
+/// let mut steps = Steps::new();
+/// assert_eq!(positions::next_in_row::<And>(&[9, 0, 2], 4, &mut steps), Some(129));
+/// assert_eq!(positions::next_in_row::<And>(&[9, 0, 2], 130, &mut steps), None);
+/// ```
 #[inline(always)]
-fn next_in_row<O: WordOp>(words: &[Block], from: usize, steps: &mut Steps) -> Option<usize> {
+pub fn next_in_row<O: WordOp>(words: &[Block], from: usize, steps: &mut Steps) -> Option<usize> {
     steps.tick();
     let at = from / BITS;
     let rest = O::word(Block::MAX, words[at]) >> (from % BITS);

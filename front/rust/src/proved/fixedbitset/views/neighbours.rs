@@ -21,7 +21,11 @@ impl Bits<'_> {
     /// ```
     #[inline(always)]
     pub fn next_one(self, from: usize, steps: &mut Steps) -> Option<usize> {
-        positions::next::<And>(self.words, from, self.length, steps)
+        if from >= self.length {
+            return None;
+        }
+        // No bit stands past the length.
+        positions::next_in_row::<And>(self.words, from, steps)
     }
 
     /// The least position at or past `from` and below the length that is not set, or
