@@ -64,7 +64,8 @@ module _ (ws old : List ℕ) (from start end k put : ℕ) (inside : k < length o
     stays : (p : ℕ) → in_range start end p ≡ false → has_bit written p ≡ has_bit old p
     unfolding has_bit
     stays p out = ⊎_elim
-        (λ (at : p / 64 ≡ k). has_bit-written p at ∙ without p at out ∙ ap (λ j. bit (get_or old j 0) (p % 64)) (sym at))
+        (λ (at : p / 64 ≡ k).
+        has_bit-written p at ∙ without p at out ∙ ap (λ j. bit (get_or old j 0) (p % 64)) (sym at))
         (λ (other : p / 64 ≢ k). ap (λ w. bit w (p % 64)) (get_or-set_other old k (p / 64) put 0 other))
         (cases_eq (p / 64) k)
 

@@ -184,7 +184,8 @@ down_cost n q k long words old mid new used same count left moved =
     (swap old (lane_steps (low - q)) (lane_steps (4 * div_ceil low 4 - q)) _ more)
 
 -- q words of which some are left for a row of k and the rest of its lane, and one step more where that has none
-lanes_over : (k q : ℕ) → k ≤ q → q < 4 * div_ceil k 4 → lane_steps k + 1 ≡ lane_steps q + lane_steps (4 * div_ceil k 4 - q)
+lanes_over : (k q : ℕ) → k ≤ q → q < 4 * div_ceil k 4
+    → lane_steps k + 1 ≡ lane_steps q + lane_steps (4 * div_ceil k 4 - q)
 lanes_over k q fit over = omega (arith, fit, over)
 
 lanes_over_cost : (old mid k q : ℕ) → k ≤ q → (q < 4 * div_ceil k 4 → mid ≡ old + 1)

@@ -5,8 +5,8 @@ use Rattle.bitwords.proofs.ranges.store.Goals as goal
 pub returns-else-shift-width-gt-BITS-clause-bits : goal.returns-else-shift-width-gt-BITS-clause-bits
 returns-else-shift-width-gt-BITS-clause-bits c =
     IsCopied-low c.args.words.now (λ k. search rules) c.args.number c.stretch-mask.result c.args.start c.args.width
-    c.requires.width c.stretch-mask.type_inv c.stretch-mask.ensures (c.args.start + c.args.width) (omega arith) (omega arith)
-    (λ p _ behind. behind) (omega arith)
+    c.requires.width c.stretch-mask.type_inv c.stretch-mask.ensures (c.args.start + c.args.width) (omega arith)
+    (omega arith) (λ p _ behind. behind) (omega arith)
 
 pub returns-then-shift-width-gt-BITS-clause-bits : goal.returns-then-shift-width-gt-BITS-clause-bits
 returns-then-shift-width-gt-BITS-clause-bits c =
