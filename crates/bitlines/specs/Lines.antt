@@ -13,10 +13,6 @@ use Rattle.bitlines.specs.declared.names.OneSet.{OneSet}
 use Rattle.bitlines.specs.declared.names.OneSet.TheVariants as one_set
 use Rattle.bitlines.specs.declared.names.SetAndNumber.{SetAndNumber}
 use Rattle.bitlines.specs.declared.names.SetAndNumber.TheVariants as set_and_number
-use Rattle.bitlines.specs.declared.names.SetAndTwoNumbers.{SetAndTwoNumbers}
-use Rattle.bitlines.specs.declared.names.SetAndTwoNumbers.TheVariants as set_and_two_numbers
-use Rattle.bitlines.specs.declared.names.SetAndList.{SetAndList}
-use Rattle.bitlines.specs.declared.names.SetAndList.TheVariants as set_and_list
 use Rattle.bitlines.specs.declared.names.TwoSets.{TwoSets}
 use Rattle.bitlines.specs.declared.names.TwoSets.TheVariants as two_sets
 use Rattle.bitlines.specs.declared.names.ThreeSets.{ThreeSets}
@@ -56,16 +52,6 @@ of_set_and_number set_and_number.Insert k n = action.insert k n
 of_set_and_number set_and_number.Remove k n = action.remove k n
 of_set_and_number set_and_number.Toggle k n = action.toggle k n
 of_set_and_number set_and_number.Put k n = action.put k n
-
--- a command on a set and two numbers
-abbrev pub of_set_and_two_numbers : SetAndTwoNumbers → ℕ → ℕ → ℕ → Action
-of_set_and_two_numbers set_and_two_numbers.CopyBit k m n = action.copy_bit k m n
-of_set_and_two_numbers set_and_two_numbers.SetBlock k m n = action.set_block k m n
-
--- a command on a set and a list of numbers
-abbrev pub of_set_and_list : SetAndList → ℕ → List ℕ → Action
-of_set_and_list set_and_list.FromIter k ns = action.from_iter k ns
-of_set_and_list set_and_list.Extend k ns = action.extend k ns
 
 -- a command on two sets
 abbrev pub of_two_sets : TwoSets → ℕ → ℕ → Action
@@ -122,8 +108,10 @@ of_two_sets_and_ends two_sets_and_ends.SymmetricDifference a b ends = action.sym
 unfoldable pub command_by : Name → List (List ℕ) → Option Action
 command_by (name.OneSet c) args = one args >>= λ k. Some (of_one_set c k)
 command_by (name.SetAndNumber c) args = two args >>= λ x. Some (of_set_and_number c x.0 x.1)
-command_by (name.SetAndTwoNumbers c) args = three args >>= λ x. Some (of_set_and_two_numbers c x.0 x.1 x.2)
-command_by (name.SetAndList c) args = one_and_list args >>= λ x. Some (of_set_and_list c x.0 x.1)
+command_by name.CopyBit args = three args >>= λ x. Some (action.copy_bit x.0 x.1 x.2)
+command_by name.SetBlock args = three args >>= λ x. Some (action.set_block x.0 x.1 x.2)
+command_by name.FromIter args = one_and_list args >>= λ x. Some (action.from_iter x.0 x.1)
+command_by name.Extend args = one_and_list args >>= λ x. Some (action.extend x.0 x.1)
 command_by name.WithCapacityAndBlocks args =
     two_and_list args >>= λ x. Some (action.with_capacity_and_blocks x.0 x.1 x.2)
 command_by name.FromValue args = one_and_json args >>= λ x. Some (action.from_value x.0 x.1)
@@ -150,7 +138,8 @@ command_of line = command_of_words (words line)
 
 -- whether a command of this name has a list or a JSON value
 abbrev pub takes_memory : Name → Bool
-takes_memory (name.SetAndList c) = true
+takes_memory name.FromIter = true
+takes_memory name.Extend = true
 takes_memory name.WithCapacityAndBlocks = true
 takes_memory name.FromValue = true
 takes_memory (name.SetAndEnds c) = true

@@ -3,15 +3,13 @@ use Rattle.std.specs.Prelude.{ℕ, List, [], ◌∷◌, Option, Some, None, if�
 use Rattle.std.specs.Option.{option_or}
 use Rattle.std.specs.Str.{bytes_eq}
 use Rattle.bitlines.specs.declared.names.Name.{Name}
-use Rattle.bitlines.specs.declared.names.Name.TheVariants.{OneSet, SetAndNumber, SetAndTwoNumbers, SetAndList, TwoSets}
-use Rattle.bitlines.specs.declared.names.Name.TheVariants.{ThreeSets, SetAndRange, SetAndEnds, TwoSetsAndEnds}
-use Rattle.bitlines.specs.declared.names.Name.TheVariants.{WithCapacityAndBlocks, FromValue, Set, SetRange}
+use Rattle.bitlines.specs.declared.names.Name.TheVariants.{OneSet, SetAndNumber, TwoSets, ThreeSets, SetAndRange}
+use Rattle.bitlines.specs.declared.names.Name.TheVariants.{SetAndEnds, TwoSetsAndEnds, CopyBit, SetBlock, FromIter}
+use Rattle.bitlines.specs.declared.names.Name.TheVariants.{Extend, WithCapacityAndBlocks, FromValue, Set, SetRange}
 use Rattle.bitlines.specs.declared.names.OneSet.TheVariants.{New, Default, Len, IsEmpty, IsClear, IsFull}
 use Rattle.bitlines.specs.declared.names.OneSet.TheVariants.{Minimum, Maximum, AsSlice, Text, ToValue, Clear}
 use Rattle.bitlines.specs.declared.names.SetAndNumber.TheVariants.{WithCapacity, Contains, Index, Grow}
 use Rattle.bitlines.specs.declared.names.SetAndNumber.TheVariants.{GrowAndInsert, Insert, Remove, Toggle, Put}
-use Rattle.bitlines.specs.declared.names.SetAndTwoNumbers.TheVariants.{CopyBit, SetBlock}
-use Rattle.bitlines.specs.declared.names.SetAndList.TheVariants.{FromIter, Extend}
 use Rattle.bitlines.specs.declared.names.TwoSets.TheVariants.{Clone, CloneFrom, UnionWith, SymmetricDifferenceWith}
 use Rattle.bitlines.specs.declared.names.TwoSets.TheVariants.{BitorAssign, BitxorAssign, IntersectWith, DifferenceWith}
 use Rattle.bitlines.specs.declared.names.TwoSets.TheVariants.{BitandAssign, UnionCount, IntersectionCount}
@@ -54,7 +52,7 @@ abbrev pub short_names : List (List ℕ × Name)
 short_names =
     (codes "bitand", ThreeSets Bitand) ∷
     (codes "bitxor", ThreeSets Bitxor) ∷
-    (codes "extend", SetAndList Extend) ∷
+    (codes "extend", Extend) ∷
     (codes "insert", SetAndNumber Insert) ∷
     (codes "remove", SetAndNumber Remove) ∷
     (codes "toggle", SetAndNumber Toggle) ∷
@@ -65,7 +63,7 @@ short_names =
     (codes "minimum", OneSet Minimum) ∷
     (codes "as_slice", OneSet AsSlice) ∷
     (codes "contains", SetAndNumber Contains) ∷
-    (codes "copy_bit", SetAndTwoNumbers CopyBit) ∷
+    (codes "copy_bit", CopyBit) ∷
     (codes "is_clear", OneSet IsClear) ∷
     (codes "is_empty", OneSet IsEmpty) ∷
     (codes "to_value", OneSet ToValue) ∷
@@ -74,10 +72,10 @@ short_names =
 -- those of nine to twelve
 abbrev pub long_names : List (List ℕ × Name)
 long_names =
-    (codes "from_iter", SetAndList FromIter) ∷
+    (codes "from_iter", FromIter) ∷
     (codes "into_ones", SetAndEnds IntoOnes) ∷
     (codes "is_subset", TwoSets IsSubset) ∷
-    (codes "set_block", SetAndTwoNumbers SetBlock) ∷
+    (codes "set_block", SetBlock) ∷
     (codes "set_range", SetRange) ∷
     (codes "clone_from", TwoSets CloneFrom) ∷
     (codes "count_ones", SetAndRange CountOnes) ∷

@@ -1,10 +1,9 @@
 //! Lines as commands.
-ghost use Rattle.std.specs.Prelude.{◌≡◌, true};
+ghost use Rattle.std.specs.Prelude.{◌≡◌, false, true};
 ghost use Rattle.bitcommands.specs.Actions.{action_of};
 ghost use Rattle.bitlines.specs.Reads.{Reads};
 ghost use Rattle.bitlines.specs.declared.names.Name.TheVariants as names;
-ghost use Rattle.bitlines.specs.Lines.{of_one_set, of_set_and_number, of_set_and_two_numbers};
-ghost use Rattle.bitlines.specs.Lines.{of_set_and_list, of_two_sets, of_three_sets};
+ghost use Rattle.bitlines.specs.Lines.{of_one_set, of_set_and_number, of_two_sets, of_three_sets};
 ghost use Rattle.bitlines.specs.Lines.{of_set_and_range, of_set_and_ends, of_two_sets_and_ends};
 ghost use Rattle.bitlines.specs.Lines.{command_by, command_of, takes_memory, may_lack};
 
@@ -14,8 +13,8 @@ use crate::arguments::{
 };
 pub use crate::fault::LineFault;
 use crate::names::{
-    Name, OneSet, SetAndEnds, SetAndList, SetAndNumber, SetAndRange, SetAndTwoNumbers, ThreeSets,
-    TwoSets, TwoSetsAndEnds, name_of,
+    Name, OneSet, SetAndEnds, SetAndNumber, SetAndRange, ThreeSets, TwoSets, TwoSetsAndEnds,
+    name_of,
 };
 use crate::words::Words;
 use bitcommands::commands::{Change, Command, Compare, End, Look, Make, Ranged, Span, Walk, Whole};
@@ -62,11 +61,10 @@ fn command_by(alloc: Global, name: Name, args: Words<'_>) -> Result<Command, Lin
             let (set, number) = two(args)?;
             Ok(of_set_and_number(name, set, number))
         }
-        Name::SetAndTwoNumbers(name) => {
-            let (set, first, second) = three(args)?;
-            Ok(of_set_and_two_numbers(name, set, first, second))
-        }
-        Name::SetAndList(name) => list_for_one(alloc, name, args),
+        Name::CopyBit => positions_for_one(args),
+        Name::SetBlock => word_for_one(args),
+        Name::FromIter => items_for_new(alloc, args),
+        Name::Extend => items_for_one(alloc, args),
         Name::WithCapacityAndBlocks => blocks_for_one(alloc, args),
         Name::FromValue => value_for_one(alloc, args),
         Name::TwoSets(name) => {
@@ -95,11 +93,35 @@ fn command_by(alloc: Global, name: Name, args: Words<'_>) -> Result<Command, Lin
 }
 
 #[tactic(auto, unfolding(crate::specs::Lines::command_by))]
-fn list_for_one(alloc: Global, name: SetAndList, args: Words<'_>) -> Result<Command, LineFault>
-    ensures { Reads true action_of result (command_by (names.SetAndList name) args.entry) }
+fn positions_for_one(args: Words<'_>) -> Result<Command, LineFault>
+    ensures { Reads false action_of result (command_by names.CopyBit args.entry) }
+{
+    let (set, from, to) = three(args)?;
+    Ok(Command::Change(Change::CopyBit { set, from, to }))
+}
+
+#[tactic(auto, unfolding(crate::specs::Lines::command_by))]
+fn word_for_one(args: Words<'_>) -> Result<Command, LineFault>
+    ensures { Reads false action_of result (command_by names.SetBlock args.entry) }
+{
+    let (set, index, value) = three(args)?;
+    Ok(Command::Change(Change::SetBlock { set, index, value }))
+}
+
+#[tactic(auto, unfolding(crate::specs::Lines::command_by))]
+fn items_for_new(alloc: Global, args: Words<'_>) -> Result<Command, LineFault>
+    ensures { Reads true action_of result (command_by names.FromIter args.entry) }
+{
+    let (target, items) = one_and_list(alloc, args)?;
+    Ok(Command::Make(Make::FromIter { target, items }))
+}
+
+#[tactic(auto, unfolding(crate::specs::Lines::command_by))]
+fn items_for_one(alloc: Global, args: Words<'_>) -> Result<Command, LineFault>
+    ensures { Reads true action_of result (command_by names.Extend args.entry) }
 {
     let (set, items) = one_and_list(alloc, args)?;
-    Ok(of_set_and_list(name, set, items))
+    Ok(Command::Change(Change::Extend { set, items }))
 }
 
 #[tactic(auto, unfolding(crate::specs::Lines::command_by))]
@@ -172,31 +194,6 @@ fn of_set_and_number(name: SetAndNumber, set: usize, number: usize) -> Command
         SetAndNumber::Remove => Command::Change(Change::Remove { set, bit }),
         SetAndNumber::Toggle => Command::Change(Change::Toggle { set, bit }),
         SetAndNumber::Put => Command::Change(Change::Put { set, bit }),
-    }
-}
-
-fn of_set_and_two_numbers(
-    name: SetAndTwoNumbers,
-    set: usize,
-    first: usize,
-    second: usize,
-) -> Command
-    ensures { action_of result ≡ of_set_and_two_numbers name set first second }
-{
-    let (from, to) = (first, second);
-    let (index, value) = (first, second);
-    match name {
-        SetAndTwoNumbers::CopyBit => Command::Change(Change::CopyBit { set, from, to }),
-        SetAndTwoNumbers::SetBlock => Command::Change(Change::SetBlock { set, index, value }),
-    }
-}
-
-fn of_set_and_list(name: SetAndList, set: usize, items: Vec<usize>) -> Command
-    ensures { action_of result ≡ of_set_and_list name set items.items }
-{
-    match name {
-        SetAndList::FromIter => Command::Make(Make::FromIter { target: set, items }),
-        SetAndList::Extend => Command::Change(Change::Extend { set, items }),
     }
 }
 

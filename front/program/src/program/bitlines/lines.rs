@@ -8,8 +8,8 @@ use crate::program::bitlines::arguments::{
 };
 pub use crate::program::bitlines::fault::LineFault;
 use crate::program::bitlines::names::{
-    Name, OneSet, SetAndEnds, SetAndList, SetAndNumber, SetAndRange, SetAndTwoNumbers, ThreeSets,
-    TwoSets, TwoSetsAndEnds, name_of,
+    Name, OneSet, SetAndEnds, SetAndNumber, SetAndRange, ThreeSets, TwoSets, TwoSetsAndEnds,
+    name_of,
 };
 use crate::program::bitlines::words::Words;
 use crate::program::bitcommands::commands::{Change, Command, Compare, End, Look, Make, Ranged, Span, Walk, Whole};
@@ -50,11 +50,10 @@ fn command_by(alloc: Global, name: Name, args: Words<'_>) -> Result<Command, Lin
             let (set, number) = two(args)?;
             Ok(of_set_and_number(name, set, number))
         }
-        Name::SetAndTwoNumbers(name) => {
-            let (set, first, second) = three(args)?;
-            Ok(of_set_and_two_numbers(name, set, first, second))
-        }
-        Name::SetAndList(name) => list_for_one(alloc, name, args),
+        Name::CopyBit => positions_for_one(args),
+        Name::SetBlock => word_for_one(args),
+        Name::FromIter => items_for_new(alloc, args),
+        Name::Extend => items_for_one(alloc, args),
         Name::WithCapacityAndBlocks => blocks_for_one(alloc, args),
         Name::FromValue => value_for_one(alloc, args),
         Name::TwoSets(name) => {
@@ -82,9 +81,24 @@ fn command_by(alloc: Global, name: Name, args: Words<'_>) -> Result<Command, Lin
     }
 }
 
-fn list_for_one(alloc: Global, name: SetAndList, args: Words<'_>) -> Result<Command, LineFault> {
+fn positions_for_one(args: Words<'_>) -> Result<Command, LineFault> {
+    let (set, from, to) = three(args)?;
+    Ok(Command::Change(Change::CopyBit { set, from, to }))
+}
+
+fn word_for_one(args: Words<'_>) -> Result<Command, LineFault> {
+    let (set, index, value) = three(args)?;
+    Ok(Command::Change(Change::SetBlock { set, index, value }))
+}
+
+fn items_for_new(alloc: Global, args: Words<'_>) -> Result<Command, LineFault> {
+    let (target, items) = one_and_list(alloc, args)?;
+    Ok(Command::Make(Make::FromIter { target, items }))
+}
+
+fn items_for_one(alloc: Global, args: Words<'_>) -> Result<Command, LineFault> {
     let (set, items) = one_and_list(alloc, args)?;
-    Ok(of_set_and_list(name, set, items))
+    Ok(Command::Change(Change::Extend { set, items }))
 }
 
 fn blocks_for_one(alloc: Global, args: Words<'_>) -> Result<Command, LineFault> {
@@ -141,27 +155,6 @@ fn of_set_and_number(name: SetAndNumber, set: usize, number: usize) -> Command {
         SetAndNumber::Remove => Command::Change(Change::Remove { set, bit }),
         SetAndNumber::Toggle => Command::Change(Change::Toggle { set, bit }),
         SetAndNumber::Put => Command::Change(Change::Put { set, bit }),
-    }
-}
-
-fn of_set_and_two_numbers(
-    name: SetAndTwoNumbers,
-    set: usize,
-    first: usize,
-    second: usize,
-) -> Command {
-    let (from, to) = (first, second);
-    let (index, value) = (first, second);
-    match name {
-        SetAndTwoNumbers::CopyBit => Command::Change(Change::CopyBit { set, from, to }),
-        SetAndTwoNumbers::SetBlock => Command::Change(Change::SetBlock { set, index, value }),
-    }
-}
-
-fn of_set_and_list(name: SetAndList, set: usize, items: Vec<usize>) -> Command {
-    match name {
-        SetAndList::FromIter => Command::Make(Make::FromIter { target: set, items }),
-        SetAndList::Extend => Command::Change(Change::Extend { set, items }),
     }
 }
 

@@ -11,10 +11,6 @@ pub(crate) enum Name {
     OneSet(OneSet),
     /// A set and a number.
     SetAndNumber(SetAndNumber),
-    /// A set and two numbers.
-    SetAndTwoNumbers(SetAndTwoNumbers),
-    /// A set and a list of numbers.
-    SetAndList(SetAndList),
     /// Two sets.
     TwoSets(TwoSets),
     /// Three sets.
@@ -25,6 +21,14 @@ pub(crate) enum Name {
     SetAndEnds(SetAndEnds),
     /// Two sets and the ends of an iterator.
     TwoSetsAndEnds(TwoSetsAndEnds),
+    /// A set and two positions.
+    CopyBit,
+    /// A set, the index of a word, and the word.
+    SetBlock,
+    /// A set and a list of positions.
+    FromIter,
+    /// The same.
+    Extend,
     /// A set, a length and a list of words.
     WithCapacityAndBlocks,
     /// A set and a JSON value.
@@ -64,20 +68,6 @@ pub(crate) enum SetAndNumber {
     Remove,
     Toggle,
     Put,
-}
-
-/// The name of a command on a set and two numbers.
-#[derive(Clone, Copy)]
-pub(crate) enum SetAndTwoNumbers {
-    CopyBit,
-    SetBlock,
-}
-
-/// The name of a command on a set and a list of numbers.
-#[derive(Clone, Copy)]
-pub(crate) enum SetAndList {
-    FromIter,
-    Extend,
 }
 
 /// The name of a command on two sets.
@@ -191,7 +181,7 @@ fn short_name(word: &[u8]) -> Option<Name> {
     name_in!(word;
         b"bitand" => Name::ThreeSets(ThreeSets::Bitand),
         b"bitxor" => Name::ThreeSets(ThreeSets::Bitxor),
-        b"extend" => Name::SetAndList(SetAndList::Extend),
+        b"extend" => Name::Extend,
         b"insert" => Name::SetAndNumber(SetAndNumber::Insert),
         b"remove" => Name::SetAndNumber(SetAndNumber::Remove),
         b"toggle" => Name::SetAndNumber(SetAndNumber::Toggle),
@@ -202,7 +192,7 @@ fn short_name(word: &[u8]) -> Option<Name> {
         b"minimum" => Name::OneSet(OneSet::Minimum),
         b"as_slice" => Name::OneSet(OneSet::AsSlice),
         b"contains" => Name::SetAndNumber(SetAndNumber::Contains),
-        b"copy_bit" => Name::SetAndTwoNumbers(SetAndTwoNumbers::CopyBit),
+        b"copy_bit" => Name::CopyBit,
         b"is_clear" => Name::OneSet(OneSet::IsClear),
         b"is_empty" => Name::OneSet(OneSet::IsEmpty),
         b"to_value" => Name::OneSet(OneSet::ToValue),
@@ -211,10 +201,10 @@ fn short_name(word: &[u8]) -> Option<Name> {
 
 fn long_name(word: &[u8]) -> Option<Name> {
     name_in!(word;
-        b"from_iter" => Name::SetAndList(SetAndList::FromIter),
+        b"from_iter" => Name::FromIter,
         b"into_ones" => Name::SetAndEnds(SetAndEnds::IntoOnes),
         b"is_subset" => Name::TwoSets(TwoSets::IsSubset),
-        b"set_block" => Name::SetAndTwoNumbers(SetAndTwoNumbers::SetBlock),
+        b"set_block" => Name::SetBlock,
         b"set_range" => Name::SetRange,
         b"clone_from" => Name::TwoSets(TwoSets::CloneFrom),
         b"count_ones" => Name::SetAndRange(SetAndRange::CountOnes),
