@@ -1,8 +1,11 @@
 -- Words are added, cut or written anew: what that does to the value.
-use Rattle.std.proofs.Common.{◌≡◌, ℕ, ◌-◌, ◌/◌, ◌%◌, ◌^◌, ◌<◌, ◌≤◌, List, ◌++◌}
-use Rattle.std.proofs.Common.{false, replicate, length, get_or, sym, ap, ◌∙◌, arith}
+use Rattle.std.proofs.Common.{◌≡◌, ℕ, ◌-◌, ◌*◌, ◌/◌, ◌%◌, ◌^◌, ◌<◌, ◌≤◌, List, ◌++◌}
+use Rattle.std.proofs.Common.{false, replicate, length, take, drop, get_or, sym, ap, ◌∙◌, ⊎_elim, arith}
+use Rattle.std.proofs.lemmas.Bool.{cases_lt}
+use borrow.Rule.Slice.PartMut.{put_mid}
+use Rattle.bitlanes.specs.Bits.{bit}
 use Rattle.std.proofs.lemmas.List.{append-nil, get_or-append_right, get_or_append_left}
-use Rattle.std.proofs.lemmas.List.{get_or_past, get_or-replicate, length-replicate, length-append}
+use Rattle.std.proofs.lemmas.List.{get_or_past, get_or-replicate, length-replicate, length-append, length-take, length-drop}
 use Rattle.bitwords.specs.Rows.{has_bit}
 use Rattle.bitwords.specs.RowFacts.{bit-zero, has_bit-same}
 use Rattle.fixedbitset.specs.Bits.{Bits, contains, empty, grow, storage_words, of_words}
@@ -58,6 +61,32 @@ none_added ws count len same =
 pub has_bit-zeros : (j p : ℕ) → has_bit (zeros j) p ≡ false
 unfolding has_bit
 has_bit-zeros j p = rw (get_or-none j (p / 64)) (bit-zero (p % 64))
+
+-- words of which those from word k on are written with zeros
+module _ (ws zs : List ℕ) (k : ℕ) (inside : k ≤ length ws)
+    (are : zs ≡ zeros (length (take (length ws - k) (drop k ws)))) where
+  abbrev cut : List ℕ
+  cut = put_mid k (length ws - k) ws zs
+
+  long : length zs ≡ length ws - k
+  long = ap length are ∙ length-replicate {A = ℕ} _ 0 ∙ omega (arith, length-take {A = ℕ}, length-drop {A = ℕ})
+
+  within : (i : ℕ) → k ≤ i → i < length ws → get_or cut i 0 ≡ get_or zs (i - k) 0
+  within i from below = grind (arith, long, get_or_append_left, get_or-append_right, length-take)
+
+  whole : length cut ≡ length ws
+  whole = omega (arith, long, length-append {A = ℕ}, length-take {A = ℕ}, length-drop {A = ℕ})
+
+  pub zeros_behind : (p : ℕ) → 64 * k ≤ p → has_bit cut p ≡ false
+  unfolding has_bit
+  zeros_behind p behind = ⊎_elim
+      (λ (lt : p / 64 < length ws).
+      ap (λ w. bit w (p % 64))
+      (within (p / 64) (omega arith) lt ∙ ap (λ z. get_or z (p / 64 - k) 0) are ∙ get_or-none _ (p / 64 - k))
+      ∙ bit-zero (p % 64))
+      (λ (ge : length ws ≤ p / 64).
+      ap (λ w. bit w (p % 64)) (get_or_past cut (p / 64) 0 (omega (arith, whole))) ∙ bit-zero (p % 64))
+      (cases_lt (p / 64) (length ws))
 
 has_bit-none : (j n p : ℕ) → has_bit (zeros j) p ≡ contains (empty n) p
 has_bit-none j n p = has_bit-zeros j p ∙ sym (contains-empty n p)

@@ -133,11 +133,6 @@ keeps_over_zeros n fits ws mid part k test count used zeros moved cut =
     ∙ grind (arith, nat_tests, used, contains-having n test p))
     (cases_lt p (64 * k)))
 
--- of a row that is cut at n, the words that n does not need are 0
-pub zeros_behind : (n : ℕ) (ws new : List ℕ) → IsJoined (λ x y. x && y) ws (λ p. nat_lt p n) new → (p : ℕ)
-    → 64 * words_needed n ≤ p → has_bit new p ≡ false
-zeros_behind n ws new cut p behind = grind (arith, nat_tests, cut.long, cut.bits p, has_bit-past new p)
-
 -- ---- the steps of these, and those of the lanes that are not moved
 
 swap : (o a b c : ℕ) → a ≤ b → o + (b - a) + (a + c) ≡ o + (b + c)

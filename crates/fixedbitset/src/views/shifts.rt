@@ -20,7 +20,7 @@ use crate::views::{Bits, BitsMut};
 use bitlanes::lanes::LANE;
 use bitlanes::ops::{Or, Second, WordOp};
 use bitlanes::word::BITS;
-use bitlanes::{Block, Steps};
+use bitlanes::{Block, Steps, lanes};
 use bitwords::{positions, ranges, shifts};
 
 impl BitsMut<'_> {
@@ -218,7 +218,8 @@ impl Bits<'_> {
             (storage_words (end - start)) (storage_words self.entry.length - start / 64) }
         ensures bound { steps.new ≤ steps.old + lane_steps (storage_words (end - start)) + 1 }
     {
-        positions::clear_from(to, end - start);
+        let unused = &mut to[(end - start).div_ceil(BITS)..];
+        lanes::zero(unused, &mut Steps::new());
         self.slice_over_zeros(start, end, to, steps);
     }
 

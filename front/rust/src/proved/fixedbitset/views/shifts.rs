@@ -9,7 +9,7 @@ use crate::proved::fixedbitset::views::{Bits, BitsMut};
 use crate::proved::bitlanes::lanes::LANE;
 use crate::proved::bitlanes::ops::{Or, Second, WordOp};
 use crate::proved::bitlanes::word::BITS;
-use crate::proved::bitlanes::{Block, Steps};
+use crate::proved::bitlanes::{Block, Steps, lanes};
 use crate::proved::bitwords::{positions, ranges, shifts};
 
 impl BitsMut<'_> {
@@ -155,7 +155,8 @@ impl Bits<'_> {
     /// ```
     #[inline]
     pub fn slice_to(self, start: usize, end: usize, to: &mut [Block], steps: &mut Steps) {
-        positions::clear_from(to, end - start);
+        let unused = &mut to[(end - start).div_ceil(BITS)..];
+        lanes::zero(unused, &mut Steps::new());
         self.slice_over_zeros(start, end, to, steps);
     }
 
