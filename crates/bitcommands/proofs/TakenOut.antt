@@ -1,6 +1,6 @@
 -- A set that a command changes by another one, which is taken out of its place meanwhile, or by itself.
 use Rattle.std.proofs.Common.{◌≡◌, ◌≢◌, ℕ, ◌<◌, ◌≤◌, ◌⊎◌, inl, inr, Bool, true, false, IsTrue, length, get_or, set}
-use Rattle.std.proofs.Common.{None, Result, Ok, Err, MatchOption, ap, ◌∙◌, sym, arith, refl}
+use Rattle.std.proofs.Common.{None, Result, Ok, MatchOption, ◌∙◌, sym, arith, refl}
 use Rattle.std.specs.Result.{IsErr, IsErrAnd}
 use Rattle.std.proofs.lemmas.Bool.Decides.{nat_tests}
 use Rattle.std.proofs.lemmas.Grind.{common_steps}
@@ -32,10 +32,6 @@ no_refusal : (old : Sets) (a b : ℕ) (u : Unit {0}) → Passes (Ok u) (no_sets 
     → (no_sets old a b ≡ None) × (a < length old) × (b < length old)
 no_refusal old a b u passes = grind (arith, nat_tests)
 
-is_memory : (r : Result Reply Refusal) → IsErr r × IsErrAnd r (λ f. f ≡ refusal.Memory) → r ≡ Err refusal.Memory
-is_memory (Ok x) h = absurd h.1
-is_memory (Err f) h = ap Err h.1
-
 module _ (old : Sets) (a b : ℕ) (here there e t : Bits) (u : Unit {0}) (passes : Passes (Ok u) (no_sets old a b))
     (apart : a ≢ b) (is : here ≡ get_or old a here) (taken : t ≡ get_or old a here)
     (other : there ≡ get_or (set old a e) b there) where
@@ -52,23 +48,13 @@ module _ (old : Sets) (a b : ℕ) (here there e t : Bits) (u : Unit {0}) (passes
       → new ≡ join t (get_or (set old a e) b there)
       → Joins old a b takes_memory join (Ok reply.Done) (set (set old a e) a new)
   changed takes_memory join new h =
-      rw (no_refusal old a b u passes).0
-      (inl (
-        refl,
-        set-set old a e new
-            ∙ ap (set old a) (h ∙ ap (λ v. join v (get_or (set old a e) b there)) first ∙ ap (join (at old a)) second),
-      ))
+      rw ((no_refusal old a b u passes).0, h, first, second) (inl (refl, set-set old a e (join (at old a) (at old b))))
 
   pub stopped : (join : Bits → Bits → Bits) (new : Bits) (r : Result Reply Refusal)
       → IsErr r × IsErrAnd r (λ f. f ≡ refusal.Memory) → new ≡ t
       → (words_needed (get_or (set old a e) b there).length ≤ words_needed t.length → false ≡ true)
       → Joins old a b needs_more_words join r (set (set old a e) a new)
-  stopped join new r memory kept lacks =
-      rw ((no_refusal old a b u passes).0, is_memory r memory)
-      (inr (
-        refl,
-        (
-          grind (arith, nat_tests, first, second, lacks),
-          set-set old a e new ∙ ap (set old a) (kept ∙ first) ∙ set-get_or old a (empty 0),
-        ),
-      ))
+  stopped join new r memory kept h =
+      let few : IsTrue (needs_more_words (at old a) (at old b).length) = grind (arith, nat_tests, first, second, h) in
+      rw ((no_refusal old a b u passes).0, kept, first)
+      (inr (grind (arith, memory), (few, set-set old a e (at old a) ∙ set-get_or old a (empty 0))))
