@@ -5,7 +5,8 @@ use Rattle.std.proofs.lemmas.Bool.{cases_lt}
 use borrow.Rule.Slice.PartMut.{put_mid}
 use Rattle.bitlanes.specs.Bits.{bit}
 use Rattle.std.proofs.lemmas.List.{append-nil, get_or-append_right, get_or_append_left}
-use Rattle.std.proofs.lemmas.List.{get_or_past, get_or-replicate, length-replicate, length-append, length-take, length-drop}
+use Rattle.std.proofs.lemmas.List.{get_or_past, get_or-replicate, length-replicate, length-append}
+use Rattle.std.proofs.lemmas.List.{length-take, length-drop}
 use Rattle.bitwords.specs.Rows.{has_bit}
 use Rattle.bitwords.specs.RowFacts.{bit-zero, has_bit-same}
 use Rattle.fixedbitset.specs.Bits.{Bits, contains, empty, grow, storage_words, of_words}
