@@ -24,9 +24,10 @@ CRATES = {
 }
 # The items that are written otherwise, by their source. `Block` is `usize` where that has 64 bits, as upstream's is, else `u64`.
 # A text of ASCII digits is made with no test in Rattle, which in Rust is `unsafe`. The solver counts its rounds by a number that
-# Rust reads too.
+# Rust reads too. From where on a count is a call of its own hangs on the target; both ways have one contract.
 WRITTEN = {
     ("crates/bitlanes/src/word.rt", "pub type Block = u64 ;"): "pub use shim::Block;",
+    ("crates/bitwords/src/ranges.rt", "const LONG : usize = 512 * BITS ;"): "use shim::LONG;",
     ("crates/fixedbitset/src/text.rt",
      "fn text_of ( digits : & [ u8 ] ) -> & str { unsafe { str :: from_utf8_unchecked ( digits ) } }"): "use shim::text_of;",
     **{(f"crates/flow/src/{it}.rt", "use fixedbitset :: { FixedBitSet , Steps } ;"): "use fixedbitset::FixedBitSet;\nuse shim::Steps;"
@@ -79,7 +80,7 @@ MEMBERS = {"cmp": {"Ordering"}, "iter": {"FusedIterator"}, "marker": {"PhantomDa
            "vec": {"IntoIter"}, "alloc": {"AllocError", "Global"}, "fmt": {"Binary", "Display", "Formatter", "Result"},
            "hash": {"Hash", "Hasher"},
            "ops": {"Range", "RangeFrom", "RangeFull", "RangeInclusive", "RangeTo", "RangeToInclusive"},
-           "simd": {"prelude"}, "prelude": {"u64x4"}, "snapshot": {"Snapshot"}, "shim": {"Block", "Steps", "text_of"},
+           "simd": {"prelude"}, "prelude": {"u64x4"}, "snapshot": {"Snapshot"}, "shim": {"Block", "LONG", "Steps", "text_of"},
            "Block": {"MAX", "from_le_bytes"}, "u64x4": {"from_array", "from_slice", "splat"}, "Snapshot": {"of"},
            "Vec": {"from_clones", "from_slice", "new", "with_capacity"}, "Binary": {"fmt"}, "usize": {"MAX"},
            "Ordering": {"Equal"}}

@@ -153,12 +153,6 @@ count-edges start end low high is c =
     let b : 64 * (high / 64) ≡ high = omega (arith, edges.1) in rw (a, b) (omega arith))
     is.whole
 
--- a count over the whole words of a range that is cut
-pub count-between : (start end low high : ℕ) → IsCut start end low high → (c : ℕ → Bool) (n : ℕ)
-    → n + count_below c (64 * (low / 64)) ≡ count_below c (64 * (high / 64))
-    → n + count_below c low ≡ count_below c high
-count-between start end low high is c n e = omega (arith, count-edges start end low high is c)
-
 -- ---- a count that stays over each of three parts
 
 -- over the whole words it stays exactly if it does between the cuts

@@ -1,11 +1,12 @@
 -- How many positions a row of words has: by its ends, of inverted words, and of words joined with others.
 use Rattle.std.proofs.Common.{◌≡◌, ℕ, zero, suc, ◌+◌, ◌-◌, ◌*◌, ◌/◌, ◌%◌, ◌^◌, ◌<◌, ◌≤◌, Bool, true, false}
-use Rattle.std.proofs.Common.{not, cond, min, max, List, [], ◌∷◌, ◌++◌, length, map, take, sum_by}
+use Rattle.std.proofs.Common.{not, cond, min, max, List, [], ◌∷◌, ◌++◌, length, map, take, drop, get_or, sum_by}
 use Rattle.std.proofs.Common.{refl, sym, ap, ◌∙◌, arith, length-append, length-take-le, ⊎_elim}
 use Rattle.std.specs.Int.{bit_not, w64}
 use Rattle.std.specs.Int.Count.{ones}
 use Rattle.std.proofs.lemmas.Bool.{cases_lt}
-use Rattle.std.proofs.lemmas.List.{get_or-take, take_all}
+use Rattle.std.proofs.lemmas.Bool.Decides.{nat_tests}
+use Rattle.std.proofs.lemmas.List.{get_or-take, take_all, drop_more}
 use Rattle.std.proofs.lemmas.List.Sums.{sum_by-cons}
 use Rattle.bitlanes.specs.Bits.{bit}
 use Rattle.bitlanes.specs.Ops.{IsWordOp}
@@ -14,8 +15,8 @@ use Rattle.bitwords.specs.Ascending.{ascending}
 use Rattle.bitwords.specs.AscendingFacts.{ascending-append}
 use Rattle.bitwords.specs.BesideFacts.{has_bit-beside_within}
 use Rattle.bitwords.specs.CountFacts.{indicator, count-zero, count-suc, count-same, count-append, count-le}
-use Rattle.bitwords.specs.RowFacts.{AreWords, has_bit-inverted}
-use Rattle.bitwords.specs.Rows.{has_bit, count_below, bits_test}
+use Rattle.bitwords.specs.RowFacts.{AreWords, has_bit-at, has_bit-inverted}
+use Rattle.bitwords.specs.Rows.{has_bit, count_below, bit_test, bits_test}
 use Rattle.bitwords.specs.Steps.{both_steps}
 use Rattle.bitwords.specs.WalkedWords.{beside, ones_from, held_items}
 use Rattle.bitwords.proofs.Counted.{ones-bits, row-ones}
@@ -106,6 +107,78 @@ count-inverted ws are =
 -- a row has no more ones than bits
 pub ones-le : (ws : List ℕ) → AreWords ws → sum_by ones ws ≤ 64 * length ws
 ones-le ws are = omega (arith, row-ones ws are, count-le (has_bit ws) (64 * length ws))
+
+-- the ones of n words from word k on are the positions that these have
+pub ones-between : (ws : List ℕ) → AreWords ws → (n k : ℕ) → k + n ≤ length ws
+    → sum_by ones (take n (drop k ws)) + count_below (has_bit ws) (64 * k) ≡ count_below (has_bit ws) (64 * (k + n))
+ones-between ws are zero k le =
+    let e : k + 0 ≡ k = omega arith in omega (arith, ap (λ j. count_below (has_bit ws) (64 * j)) e)
+ones-between ws are (suc n) k le =
+    let e : k + suc n ≡ k + 1 + n = omega arith in
+    let next : 64 * (k + 1) ≡ 64 * k + 64 = omega arith in
+    omega (
+      arith,
+      ap (λ xs. sum_by ones (take (suc n) xs)) (drop_more ws k 0 (omega arith)),
+      sum_by-cons ones (get_or ws k 0) (take n (drop (k + 1) ws)),
+      ones-bits 64 (get_or ws k 0) (are k),
+      count-same _ (bit (get_or ws k 0)) 64 (has_bit-at ws k),
+      ap (count_below (has_bit ws)) next,
+      count-append (has_bit ws) (64 * k) 64,
+      ones-between ws are n (k + 1) (omega arith),
+      ap (λ j. count_below (has_bit ws) (64 * j)) e,
+    )
+
+-- they are no more than the bits of these words
+pub ones-between-le : (ws : List ℕ) → AreWords ws → (n k : ℕ) → k + n ≤ length ws
+    → sum_by ones (take n (drop k ws)) ≤ 64 * n
+ones-between-le ws are n k le =
+    let more : 64 * (k + n) ≡ 64 * k + 64 * n = omega arith in
+    omega (
+      arith,
+      ones-between ws are n k le,
+      ap (count_below (has_bit ws)) more,
+      count-append (has_bit ws) (64 * k) (64 * n),
+      count-le (λ i. has_bit ws (64 * k + i)) (64 * n),
+    )
+
+-- a test that passes by another one: u where that passes, and v where it does not
+count-by : (c d : ℕ → Bool) (u v : Bool) → ((p : ℕ) → d p ≡ cond (c p) u v) → (n : ℕ)
+    → count_below d n + cond v (count_below c n) 0 ≡ cond u (count_below c n) 0 + cond v n 0
+count-by c d u v same zero = grind (arith, count-zero c, count-zero d)
+count-by c d u v same (suc n) = grind (arith, count-suc c n, count-suc d n, same n, count-by c d u v same n)
+
+module _ {f : ℕ → ℕ → ℕ} {t : Bool → Bool → Bool} {keep also : Bool} (law : IsWordOp f t keep also)
+    (ws : List ℕ) (are : AreWords ws) where
+  keeps_one : bit (f 1 1) 0 ≡ t true true
+  keeps_one = grind (arith, law.by_bits 1 1 0 (omega arith) (omega arith))
+
+  -- a bit of both words is kept exactly if that of two ones is
+  pub keeps_ones : (x : ℕ) → x ≡ f 1 1 → x % 2 ≡ 1 → t true true ≡ true
+  keeps_ones x is odd = grind (arith, nat_tests, keeps_one, is, odd)
+
+  pub drops_ones : (x : ℕ) → x ≡ f 1 1 → x % 2 ≡ 0 → t true true ≡ false
+  drops_ones x is even = grind (arith, nat_tests, keeps_one, is, even)
+
+  by_bit : (u v : Bool) → t true true ≡ u → keep ≡ v → (p : ℕ)
+      → bit_test (t true) ws p ≡ cond (has_bit ws p) u v
+  unfolding bit_test
+  by_bit u v is_u is_v p = grind (arith, is_u, is_v, law.of_first true)
+
+  -- of n words from word k on, by how many ones they have
+  pub count-kept : (k n o : ℕ) → k + n ≤ length ws → o ≡ sum_by ones (take n (drop k ws)) → (u v : Bool)
+      → t true true ≡ u → keep ≡ v
+      → cond u o 0 + cond v (64 * n - o) 0 + count_below (bit_test (t true) ws) (64 * k)
+      ≡ count_below (bit_test (t true) ws) (64 * (k + n))
+  count-kept k n o le is u v is_u is_v =
+      let more : 64 * (k + n) ≡ 64 * k + 64 * n = omega arith in
+      grind (
+        arith,
+        is,
+        ones-between ws are n k le,
+        count-by (has_bit ws) (bit_test (t true) ws) u v (by_bit u v is_u is_v) (64 * k),
+        count-by (has_bit ws) (bit_test (t true) ws) u v (by_bit u v is_u is_v) (64 * (k + n)),
+        ones-between-le ws are n k le,
+      )
 
 -- the bits of the first words
 has_bit-take : (ws : List ℕ) (m p : ℕ) → p / 64 < m → has_bit (take m ws) p ≡ has_bit ws p

@@ -9,6 +9,14 @@ pub type Block = usize;
 #[cfg(not(target_pointer_width = "64"))]
 pub type Block = u64;
 
+/// From how many positions on a count goes by carries.
+#[cfg(not(all(target_feature = "popcnt", not(target_feature = "avx2"))))]
+pub const LONG: usize = 512 * 64;
+
+/// From how many positions on a count goes by carries: never, for the processor counts the bits of a word as fast as it reads it.
+#[cfg(all(target_feature = "popcnt", not(target_feature = "avx2")))]
+pub const LONG: usize = usize::MAX;
+
 /// What `use std::simd::prelude::*` names.
 pub mod simd {
     pub mod prelude {

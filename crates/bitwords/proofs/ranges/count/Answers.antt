@@ -1,7 +1,6 @@
 use Rattle.std.proofs.Common.{ℕ, Bool, true, arith}
 use Rattle.bitwords.specs.Rows.{bit_test}
 use Rattle.bitwords.specs.CountFacts.{count-le}
-use Rattle.bitwords.proofs.Counted.{count-between}
 use Rattle.bitwords.proofs.ranges.count.Goals as goal
 
 pub overflow_add-result : goal.overflow_add-result
@@ -9,10 +8,10 @@ overflow_add-result g c =
     let bits : ℕ → Bool = bit_test (g.O.WordOp.truth true) c.args.words.now in
     omega (
       arith,
-      c.count_part-first.ensures.count,
-      count-between _ _ _ _ c.cut_long-low.ensures bits c.count_whole-middle.result c.count_whole-middle.ensures.count,
-      count-le bits c.cut_long-low.result.1,
-      c.cut_long-low.ensures.last,
+      c.count_head-first.ensures.count,
+      c.count_whole-middle.ensures.count,
+      c.count_tail-last.ensures.count,
+      count-le bits c.args.end,
     )
 
 pub overflow_add-result-2 : goal.overflow_add-result-2
@@ -20,21 +19,15 @@ overflow_add-result-2 g c =
     let bits : ℕ → Bool = bit_test (g.O.WordOp.truth true) c.args.words.now in
     omega (
       arith,
-      c.count_part-first.ensures.count,
-      count-between _ _ _ _ c.cut_long-low.ensures bits c.count_whole-middle.result c.count_whole-middle.ensures.count,
-      c.count_part-last.ensures.count,
+      c.count_head-first.ensures.count,
+      c.count_whole-middle.ensures.count,
+      c.count_tail-last.ensures.count,
       count-le bits c.args.end,
     )
 
 pub returns-clause-count : goal.returns-clause-count
 returns-clause-count g c =
-    let bits : ℕ → Bool = bit_test (g.O.WordOp.truth true) c.args.words.now in
-    omega (
-      arith,
-      c.count_part-first.ensures.count,
-      count-between _ _ _ _ c.cut_long-low.ensures bits c.count_whole-middle.result c.count_whole-middle.ensures.count,
-      c.count_part-last.ensures.count,
-    )
+    omega (arith, c.count_head-first.ensures.count, c.count_whole-middle.ensures.count, c.count_tail-last.ensures.count)
 
 pub returns-clause-cost : goal.returns-clause-cost
 returns-clause-cost g c = grind arith

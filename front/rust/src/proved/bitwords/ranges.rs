@@ -7,10 +7,14 @@
 //! and the last is masked.
 
 use crate::proved::bitwords::shifts::join_down;
+use crate::proved::bitlanes::lanes::LANE;
 use crate::proved::bitlanes::ops::{Second, WordOp};
 use crate::proved::bitlanes::shifts::word_from;
 use crate::proved::bitlanes::word::{BITS, Block, ones_below, stretch};
 use crate::proved::bitlanes::{Steps, lanes};
+
+// From how many positions on a count goes by carries: from 512 words on, as in the kernel.
+use crate::shim::LONG;
 
 /// Joins each position of the range, as one that is set, to the words by `O`; the others stay.
 ///
@@ -43,13 +47,16 @@ pub fn change<O: WordOp>(words: &mut [Block], start: usize, end: usize, steps: &
 /// ```
 #[inline(always)]
 pub fn count<O: WordOp>(words: &[Block], start: usize, end: usize, steps: &mut Steps) -> usize {
-    if end - BITS * (start / BITS) <= BITS {
+    let span = end - BITS * (start / BITS);
+    if span <= BITS {
         return count_part::<O>(words, start, end, steps);
     }
-    let (low, high) = cut_long(start, end);
-    let first = count_part::<O>(words, start, low, steps);
-    let middle = count_whole::<O>(words, low / BITS, high / BITS, steps);
-    let last = count_part::<O>(words, high, end, steps);
+    if span > LONG {
+        return count_long::<O>(words, start, end, steps);
+    }
+    let first = count_head::<O>(words, start, steps);
+    let last = count_tail::<O>(words, end, steps);
+    let middle = count_whole::<O>(words, start / BITS + 1, (end - 1) / BITS, steps);
     first + middle + last
 }
 
@@ -157,12 +164,6 @@ fn cut(start: usize, end: usize) -> (usize, usize) {
     (low, high)
 }
 
-// The same for a range that ends behind the word of its start.
-#[inline(always)]
-fn cut_long(start: usize, end: usize) -> (usize, usize) {
-    (BITS * start.div_ceil(BITS), end - end % BITS)
-}
-
 // The bits of a word that stand for the positions of a range within it.
 #[inline(always)]
 fn mask(start: usize, end: usize) -> Block {
@@ -234,6 +235,20 @@ fn count_part<O: WordOp>(words: &[Block], start: usize, end: usize, steps: &mut 
     }
 }
 
+// `count`, for the positions from `start` up to the end of its word.
+#[inline(always)]
+fn count_head<O: WordOp>(words: &[Block], start: usize, steps: &mut Steps) -> usize {
+    steps.tick();
+    O::word(head_mask(start), words[start / BITS]).count_ones() as usize
+}
+
+// `count`, for the positions below `end` in the word of the last of them.
+#[inline(always)]
+fn count_tail<O: WordOp>(words: &[Block], end: usize, steps: &mut Steps) -> usize {
+    steps.tick();
+    O::word(tail_mask(end), words[(end - 1) / BITS]).count_ones() as usize
+}
+
 // `count`, for the words from `first` up to and without `last`.
 #[inline(always)]
 fn count_whole<O: WordOp>(words: &[Block], first: usize, last: usize, steps: &mut Steps) -> usize {
@@ -243,6 +258,31 @@ fn count_whole<O: WordOp>(words: &[Block], first: usize, last: usize, steps: &mu
         total += O::word(Block::MAX, words[k]).count_ones() as usize;
     }
     total
+}
+
+// `count`, for a long range. It is a call of its own, so that short ones save no registers for it.
+#[cold]
+#[inline(never)]
+fn count_long<O: WordOp>(words: &[Block], start: usize, end: usize, steps: &mut Steps) -> usize {
+    let first = count_head::<O>(words, start, steps);
+    let last = count_tail::<O>(words, end, steps);
+    let middle = count_lanes::<O>(words, start / BITS + 1, (end - 1) / BITS, steps);
+    first + middle + last
+}
+
+// As `count_whole`, but by the kernel, which takes a step for each lane. The other words of the
+// lanes are steps too: a loop without a body, which compiles to nothing.
+#[inline(always)]
+fn count_lanes<O: WordOp>(words: &[Block], first: usize, last: usize, steps: &mut Steps) -> usize {
+    let count = last - first;
+    let ones = lanes::count_one(&words[first..last], steps);
+    for _ in count.div_ceil(LANE)..count {
+        steps.tick();
+    }
+    // By `O` a word of ones alone keeps the set bits of a word, or the clear ones, both or neither.
+    let set = if O::word(1, 1) % 2 == 1 { ones } else { 0 };
+    let clear = if O::KEEP { BITS * count - ones } else { 0 };
+    set + clear
 }
 
 // `none`, for a range within one word.
