@@ -120,6 +120,9 @@ METHOD = """\
     }}
 """
 INLINE = "    #[inline]\n"
+# The calls of views that rustc would leave out of line, though in line they are shorter: what they call for long rows counts as theirs.
+ALWAYS = {"count_ones", "count_zeroes"}
+ALWAYS_INLINE = "    #[inline(always)]\n"
 TRACK = "    #[track_caller]\n"
 MUST = "    #[must_use]\n"
 CALL = "self.view.{name}({handed})"

@@ -362,7 +362,7 @@ impl<'a> Bits<'a> {
     /// let set = BitsMut::settle(&mut words, 70, 70);
     /// assert_eq!(set.as_bits().count_ones(1..65), 2);
     /// ```
-    #[inline]
+    #[inline(always)]
     #[must_use]
     #[track_caller]
     pub fn count_ones<T: IndexRange>(self, range: T) -> usize {
@@ -383,7 +383,7 @@ impl<'a> Bits<'a> {
     /// let set = BitsMut::settle(&mut words, 70, 70);
     /// assert_eq!(set.as_bits().count_zeroes(1..65), 62);
     /// ```
-    #[inline]
+    #[inline(always)]
     #[must_use]
     #[track_caller]
     pub fn count_zeroes<T: IndexRange>(self, range: T) -> usize {
