@@ -310,7 +310,8 @@ HIDDEN = {
 # All text of Rust in these tables, but for what stands for another.
 SHARED = (WALK, VIEW, NEW, TRY_NEW)
 TEMPLATES = [
-    METHOD, INLINE, TRACK, MUST, CALL, SET, OF_SETS, DIRECT, *(it.head for it in OWNERS.values()), *(it for it, _ in PARTS.values()),
+    METHOD, INLINE, ALWAYS_INLINE, TRACK, MUST, CALL, SET, OF_SETS, DIRECT, *(it.head for it in OWNERS.values()),
+    *(it for it, _ in PARTS.values()),
     *(it.test for table in (FORMS, SET_FORMS) for it in table.values()),
     *(handed for table in (PARAMETERS, SET_PARAMETERS) for *_, handed in table.values()),
     *(text for table in (RESULTS, SET_RESULTS) for it in table.values() for text in (it.made, it.try_made) if text not in SHARED), *SHARED,
