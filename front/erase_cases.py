@@ -327,7 +327,7 @@ OF_PROGRAM = (
     (BYTES, "impl<'a> Words<'a> {", "impl<'a> Words<'a> { fn clone(&self) -> Words<'a> { Words { rest: None } }", "the method clone"),
     (ARGUMENTS, "(..=last).end()", "(..=last).first()", "the method first"), (ARGUMENTS, "(..=last).end()", "(0..=last).end()", INCLUSIVE),
     (NEAR, ".to_bitmask()", ".any()", "the method any"), (NEAR, "u8x32::splat(byte)", "u8x32::from_array(byte)", "the path u8x32::from_array"),
-    (JOINING, "target.remove_range(..)", "target.remove_range(0..)", RANGE), (JOINING, "mem::replace(", "mem::take(", "the path mem::take"),
+    ("flow/src/rounds.rt", "due.insert_range(..)", "due.insert_range(0..)", RANGE), (JOINING, "mem::replace(", "mem::take(", "the path mem::take"),
     (JSON, "use serde_json::Value;", "use serde_json::de::Value;", "serde_json::de::Value"),
     (OPERATORS, "static TRUE: bool = true;", "static mut TRUE: bool = true;", "the name TRUE"),
     (OPERATORS, "impl BitAndAssign<&FixedBitSet>", "impl BitOrAssign<&FixedBitSet>", "an impl of BitOrAssign"),
