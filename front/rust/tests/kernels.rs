@@ -14,8 +14,11 @@ use proved::bitlanes::ops::{And, AndNot, Or, Second, WordOp, Xor};
 use proved::bitlanes::{changes, lanes, search, Steps};
 use proved::bitwords::cursors::{Beside, Cursor, Inverted, Plain, Seen};
 use proved::bitwords::handfuls;
+use proved::fixedbitset::set::FixedBitSet;
 use proved::fixedbitset::views::Bits;
 use shim::Block;
+use std::collections::hash_map::DefaultHasher;
+use std::hash::{Hash, Hasher};
 
 type Join = fn(Block, Block) -> Block;
 
@@ -289,4 +292,18 @@ fn a_part_is_written_over_words_that_have_other_positions() {
             assert!(within.map(|at| at - start).eq(positions(&to)));
         }
     }
+}
+
+/// The crate hashes a set as its view. Here the proved set itself is hashed.
+#[test]
+fn sets_of_other_positions_feed_a_hasher_something_else() {
+    let hash_of = |bit| {
+        let mut set = FixedBitSet::with_capacity(shim::alloc::Global::Try, 70).unwrap();
+        set.insert(bit);
+        let mut hasher = DefaultHasher::new();
+        set.hash(&mut hasher);
+        hasher.finish()
+    };
+    assert_eq!(hash_of(3), hash_of(3));
+    assert_ne!(hash_of(3), hash_of(64));
 }
