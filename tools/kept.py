@@ -33,17 +33,18 @@ def kit():
 
 
 @functools.cache
-def kit_texts_sum():
-    """A sum of the texts that name the kit and its libraries, which are the same on each machine that has it."""
-    texts = [kit() / name for name in KIT_TEXTS] + sorted((kit() / "rlibs").glob("*/format"))
-    return sum_of(part for it in texts for part in (str(it.relative_to(kit())), it.read_bytes()))
+def kit_logic():
+    """The program logic of the kit, as README names it: builds of the kit that have the same one prove the same clauses."""
+    return re.search(r"logic \S+", (kit() / "KIT-ID").read_text())[0]
 
 
 @functools.cache
 def kit_sum():
-    """A sum of the kit: the texts that name it, and the size and time of each file that a check reads. The other files of
-    its libraries are held to the sum in their `format`."""
-    top, digest = kit(), hashlib.sha256(kit_texts_sum().encode())
+    """A sum of the kit: the texts that name it and its libraries, and the size and time of each file that a check reads. The
+    other files of its libraries are held to the sum in their `format`."""
+    top = kit()
+    texts = [top / name for name in KIT_TEXTS] + sorted((top / "rlibs").glob("*/format"))
+    digest = hashlib.sha256(sum_of(part for it in texts for part in (str(it.relative_to(top)), it.read_bytes())).encode())
     paths = [path for folder in KIT_FOLDERS for path in files_below(top / folder)]
     for rlib in sorted((top / "rlibs").iterdir()):
         paths += [rlib / "format", *files_below(rlib / "toolchain")]

@@ -21,7 +21,7 @@ FILES = {
     "crates/numbers/proofs/Lemmas.antt": "pub more : ℕ\n",
     "crates/numbers/proofs/next/Answers.antt": "pub answer : ℕ\n",
     "crates/numbers/proofs/second/Answers.antt": "pub other : ℕ\n",
-    f"{RLIB}/format": "crate ground\nfacts-alone ground::low\nchecked 1\nsum 1\n",
+    f"{RLIB}/format": "rattle-build one\ncrate ground\nfacts-alone ground::low\nchecked 1\nsum 1\n",
     f"{RLIB}/lang/src/lib.rt": LOW,
     f"{RLIB}/lang/antt/specs/LowFacts.antt": "pub low : ℕ\n",
     f"{RLIB}/lang/antt/proofs/Own.antt": "pub own : ℕ\n",
@@ -53,6 +53,7 @@ NOT_TRIED_AGAIN = [
     ("a body in a crate below", f"{RLIB}/format", "checked 1\nsum 1", "checked 2\nsum 2"),
     ("a proof in a crate below", f"{RLIB}/lang/antt/proofs/Own.antt", "own", "its_own"),
     ("the code of a crate below", f"{RLIB}/toolchain/checked.json", "1", "2"),
+    ("the build of the kit that made a crate below", f"{RLIB}/format", "rattle-build one", "rattle-build two"),
     ("a sentence of the edit", "edits/crates/numbers/must-fail/next-stands.edit", "file:", "# It stands.\nfile:"),
 ]
 
@@ -149,9 +150,9 @@ def check_stubs(counts):
     with tries() as it:
         with mock.patch("kept.kit_sum", lambda: "another kit"):
             counts.compare("tried again: the kit", it.run(REFUSES)[0], 1)
-            counts.compare("not tried again: the times of the kit's files, by the sums of the checkout", it.run_tracked()[0], 0)
-        with mock.patch("kept.kit_texts_sum", lambda: "another kit"):
-            counts.compare("tried again: the texts of the kit", it.run_tracked(REFUSES)[0], 1)
+            counts.compare("not tried again: a build of the kit, by the sums of the checkout", it.run_tracked()[0], 0)
+        with mock.patch("kept.kit_logic", lambda: "another logic"):
+            counts.compare("tried again: the logic of the kit", it.run_tracked(REFUSES)[0], 1)
         with mock.patch.object(keys, "sum_of_script", lambda: "another script"):
             counts.compare("tried again: the script", [it.run_tracked(REFUSES)[0], it.run(REFUSES)[0]], [1, 1])
 

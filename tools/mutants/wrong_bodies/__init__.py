@@ -61,9 +61,9 @@ none of these: it changed code, sums, and what the library keeps for its own pro
 its key the whole text of its crate, and the sums of all files of the libraries below. A crate of which all verdicts are
 kept is not checked. Beside `rt ci` they are told once it is proved.
 
-Tracked verdicts (tracked.py). tools/mutants/refused has such a sum for each edit that a round refused. It has the kit by the
-texts that name it and its libraries, and not by the times of its files, so it is the same on each machine. A run takes an edit
-with this sum as refused, but for those that it draws by chance. With --anew it tries all.
+Tracked verdicts (tracked.py). tools/mutants/refused has such a sum for each edit that a round refused. Of the kit it has the
+name of the logic alone, since two machines may have two builds of the kit. A run takes an edit with this sum as refused, but for
+those that it draws by chance. With --anew it tries all.
 
 Controls (controls.py). A right body that is written otherwise is tried in such rounds too, by all goals. It is proved where the
 check says so of its function: no hole is left in its proof, or none but those of the functions that it calls, whose contracts

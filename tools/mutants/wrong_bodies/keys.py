@@ -10,9 +10,9 @@ MUTANTS = pathlib.Path(__file__).resolve().parent.parent
 sys.path.append(str(MUTANTS.parent))
 import kept  # noqa: E402
 
-# The lines of a library's `format` that change with each body, here or below, or with how it was built: sums of its files, and
-# what it has of the libraries below it.
-SUMS = re.compile(r"(?m)^(?:checked|sum|needs|over|carries|incremental)\b.*\n?")
+# The lines of a library's `format` that change with each body, here or below, or with how and by which build of the kit it was
+# made: sums of its files, and what it has of the libraries below it.
+SUMS = re.compile(r"(?m)^(?:rattle-build|checked|sum|needs|over|carries|incremental)\b.*\n?")
 # How many digits of a sum the checkout has.
 SUM_DIGITS = 16
 
@@ -62,8 +62,8 @@ class Verdicts:
 
     @functools.cache
     def tracked_sum(self, edit):
-        """The sum of what the verdict of this edit in a round rests on, of which each machine with this kit has the same."""
-        key = self.key("tracked", edit, self.texts_in_round(edit), library_read_above, kept.kit_texts_sum())
+        """The sum of what the verdict of this edit in a round rests on, which is the same over each build of the kit with its logic."""
+        key = self.key("tracked", edit, self.texts_in_round(edit), library_read_above, kept.kit_logic())
         return key and key[:SUM_DIGITS]
 
     @functools.cache
