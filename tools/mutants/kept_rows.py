@@ -21,7 +21,7 @@ FILES = {
     "crates/numbers/proofs/Lemmas.antt": "pub more : ℕ\n",
     "crates/numbers/proofs/next/Answers.antt": "pub answer : ℕ\n",
     "crates/numbers/proofs/second/Answers.antt": "pub other : ℕ\n",
-    f"{RLIB}/format": "rattle-build one\ncrate ground\nfacts-alone ground::low\nchecked 1\nsum 1\n",
+    f"{RLIB}/format": "rattle-build one\ncrate ground\npasses std proofs.Low std\nfacts-alone ground::low\nchecked 1\nsum 1\n",
     f"{RLIB}/lang/src/lib.rt": LOW,
     f"{RLIB}/lang/antt/specs/LowFacts.antt": "pub low : ℕ\n",
     f"{RLIB}/lang/antt/proofs/Own.antt": "pub own : ℕ\n",
@@ -54,6 +54,7 @@ NOT_TRIED_AGAIN = [
     ("a proof in a crate below", f"{RLIB}/lang/antt/proofs/Own.antt", "own", "its_own"),
     ("the code of a crate below", f"{RLIB}/toolchain/checked.json", "1", "2"),
     ("the build of the kit that made a crate below", f"{RLIB}/format", "rattle-build one", "rattle-build two"),
+    ("what a crate below passes on of the kit's libraries", f"{RLIB}/format", "std proofs.Low", "std proofs.High"),
     ("a sentence of the edit", "edits/crates/numbers/must-fail/next-stands.edit", "file:", "# It stands.\nfile:"),
 ]
 

@@ -62,7 +62,7 @@ class Verdicts:
 
     @functools.cache
     def tracked_sum(self, edit):
-        """The sum of what the verdict of this edit in a round rests on, which is the same over each build of the kit with its logic."""
+        """The sum of what the verdict of this edit in a round rests on: the same over each build of the kit with this logic."""
         key = self.key("tracked", edit, self.texts_in_round(edit), library_read_above, kept.kit_logic())
         return key and key[:SUM_DIGITS]
 
@@ -159,8 +159,8 @@ def library_read_above(crate):
 
 
 def said_of_own(crate, said):
-    """What a library's `format` says of its own functions and modules."""
-    of_others = re.compile(rf"(?m)^free\S* Rattle[-.](?!{crate.name}\b).*\n?")
+    """What a library's `format` says of its own functions and modules. What it passes on of others may be another build's."""
+    of_others = re.compile(rf"(?m)^(?:free\S* Rattle[-.]|passes )(?!{crate.name}\b).*\n?")
     return of_others.sub("", SUMS.sub("", said))
 
 
