@@ -201,7 +201,7 @@ pub mod prelude {
 /// A row of numbers. A call that may take memory asks for all of it first, and what follows is that of Rust's own `Vec`.
 pub mod row {
     use super::alloc::{AllocError, Global};
-    use alloc::vec;
+    use alloc::{boxed::Box, vec};
     use core::alloc::Layout;
     use core::ops::{Deref, DerefMut};
 
@@ -262,7 +262,7 @@ pub mod row {
                 if let Global::Try = alloc {
                     drop(core::hint::black_box(Self::try_with_capacity(count)?));
                 }
-                return Ok(Vec(long(item, count)?));
+                return Ok(Vec(long(item, count)?.into_vec()));
             }
             let mut row = Self::with_capacity(alloc, count)?;
             row.0.resize(count, item);
@@ -318,12 +318,13 @@ pub mod row {
         }
     }
 
+    /// A box, whose capacity is its length: rustc then keeps one number for both, also in a caller's loop.
     #[cold]
     #[inline(never)]
-    fn long<T: Clone>(item: T, count: usize) -> Result<vec::Vec<T>, AllocError> {
+    fn long<T: Clone>(item: T, count: usize) -> Result<Box<[T]>, AllocError> {
         // (Rust's own vector would panic there, and name this file.)
         Layout::array::<T>(count).map_err(refused::<T, _>(count))?;
-        Ok(alloc::vec![item; count])
+        Ok(alloc::vec![item; count].into_boxed_slice())
     }
 
     /// What makes the error where there is no memory for so many.
