@@ -143,7 +143,7 @@ module _ {f : ℕ → ℕ → ℕ} {t : Bool → Bool → Bool} {keep take_right
       )
 
 -- between the cuts there are as many as in the whole words
-count-edges : (start end low high : ℕ) → IsCut start end low high → (c : ℕ → Bool)
+pub count-edges : (start end low high : ℕ) → IsCut start end low high → (c : ℕ → Bool)
     → count_below c (64 * (high / 64)) + count_below c low ≡ count_below c (64 * (low / 64)) + count_below c high
 count-edges start end low high is c =
     ⊎_elim

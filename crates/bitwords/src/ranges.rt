@@ -377,19 +377,21 @@ fn count_whole<O: WordOp>(words: &[Block], first: usize, last: usize, steps: &mu
 }
 
 // `count`, for a long range. It is a call of its own, so that short ones save no registers for it.
+// A first word that is whole is one of the lanes', which so are aligned as the row is.
 #[cold]
 #[inline(never)]
 fn count_long<O: WordOp>(words: &[Block], start: usize, end: usize, steps: &mut Steps) -> usize
     requires drops { O.TAKE ≡ false }
-    requires long { 64 * (start / 64) + 64 < end }
+    requires order { start ≤ end }
     requires within { end ≤ 64 * length words.now }
     ensures count { result + count_below (bit_test (O.truth true) words.now) start
         ≡ count_below (bit_test (O.truth true) words.now) end }
     ensures cost { steps.new ≡ steps.old + range_words start end }
 {
-    let first = count_head::<O>(words, start, steps);
-    let last = count_tail::<O>(words, end, steps);
-    let middle = count_lanes::<O>(words, start / BITS + 1, (end - 1) / BITS, steps);
+    let (low, high) = cut(start, end);
+    let first = count_part::<O>(words, start, low, steps);
+    let last = count_part::<O>(words, high, end, steps);
+    let middle = count_lanes::<O>(words, low / BITS, high / BITS, steps);
     first + middle + last
 }
 
