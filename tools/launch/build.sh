@@ -1,5 +1,5 @@
-# Proves and builds a program of this repository, by the kit that README names: what ./bits and ./use share. They have set
-# top, the repository's folder, and crate, the program's name, and perhaps without: how the program is run with no proof.
+# Runs, proves and builds a program of this repository by the kit that README names: what ./bits and ./use share. They have set
+# top, the repository's folder, and crate, the program's name.
 program=$top/crates/$crate/out/$crate minute=60
 
 tell() {
@@ -11,27 +11,49 @@ refuse() {
   exit 125
 }
 
-# The crates that the program stands on and the program itself, the lowest first, by crates.txt.
+# The crates that the program stands on, and itself, by crates.txt: a line of those that stand on no other, then one of those that
+# stand on these alone, and so on.
 crates() {
   tac "$top/crates.txt" | awk -F '[: ]+' -v wanted=" $crate " '
-    !/^#/ && NF && index(wanted, " " $1 " ") { all = $1 " " all; $1 = ""; wanted = wanted $0 " " }
-    END { print all }'
+    !/^#/ && NF && index(wanted, " " $1 " ") { lines[++count] = $0; $1 = ""; wanted = wanted $0 " " }
+    END {
+      for (; count; count--) {
+        last = split(lines[count], names)
+        at = 1
+        for (i = 2; i <= last; i++) if (rank[names[i]] >= at) at = rank[names[i]] + 1
+        rank[names[1]] = at
+        round[at] = round[at] " " names[1]
+      }
+      for (at = 1; at in round; at++) print round[at]
+    }'
 }
 
+# is_newest PROGRAM PATHS..: whether it is there, and none of these files, or of those below these folders, is newer
+is_newest() {
+  [ -x "$1" ] && [ -z "$(find "${@:2}" -newer "$1" -print -quit 2>/dev/null)" ]
+}
+
+# Whether the proved program is built of the sources as they are.
 is_current() {
   local name places=("$top/crates.txt")
   for name in $(crates); do places+=("$top/crates/$name/"{src,specs,proofs}); done
-  [ -x "$program" ] && [ -z "$(find "${places[@]}" -newer "$program" -print -quit 2>/dev/null)" ]
+  is_newest "$program" "${places[@]}"
+}
+
+# Whether the proved program may run. Where it was built of older sources, that is said.
+is_proved() {
+  if is_current; then return; fi
+  [ ! -x "$program" ] || tell "the proved program is older than a source, so it does not run; --proved builds it again"
+  return 1
 }
 
 # Whether the kit is there that README names.
 need_kit() {
   local wanted found
   wanted=$(grep -om 1 'logic [0-9a-f]\{16\}' "$top/README.md")
-  command -v rt >/dev/null ||
-    refuse "to build it takes the kit of '$wanted', and its command rt is not here${without:+; $without}"
+  command -v rt >/dev/null || refuse "it takes the kit of '$wanted', and its command rt is not here"
   found=$(rt version 2>/dev/null | head -n 1) || true
-  [[ $found == *"$wanted" ]] || refuse "to build it takes the kit of '$wanted', and rt is of '$found'"
+  [[ $found == *"$wanted" ]] || refuse "it takes the kit of '$wanted', and rt is of '$found'"
 }
 
 # below PROCESS: the processes that it began, and those that they did
@@ -48,30 +70,102 @@ attend() {
   wait "$!"
 }
 
-# progress TEXT: says once a minute how far the proof of a crate is, by what the kit says of its functions, or that it waits.
+# progress NUMBER: reads lines of crates, each behind the name of its crate, and says once a minute how far their proofs are, by
+# what the kit says of its functions, or that it waits.
 progress() {
-  local line far= began=$SECONDS next=$((SECONDS + minute)) said='^so far: ([0-9]+ of [0-9]+ functions)|^rt: (.*waiting.*)'
+  local -A far=()
+  local line said proved=0 began=$SECONDS next=$((SECONDS + minute)) name
+  local of_kit='^([a-z_]+): (so far: ([0-9]+ of [0-9]+ functions)|rt: (.*waiting.*))'
   while read -rt "$minute" line || [ $? -gt 128 ]; do
-    if [[ $line =~ $said ]]; then far=": ${BASH_REMATCH[1]}${BASH_REMATCH[2]}"; fi
-    if [ "$SECONDS" -ge "$next" ]; then tell "$1$far, $((SECONDS - began)) seconds" && next=$((SECONDS + minute)); fi
+    if [[ $line =~ $of_kit ]]; then far[${BASH_REMATCH[1]}]=${BASH_REMATCH[3]}${BASH_REMATCH[4]}; fi
+    if [[ $line == *": is proved" ]]; then unset "far[${line%%:*}]" && proved=$((proved + 1)); fi
+    if [ "$SECONDS" -ge "$next" ]; then
+      said="$((SECONDS - began)) seconds, $proved of $1 crates are proved"
+      for name in "${!far[@]}"; do said+="; $name: ${far[$name]}"; done
+      tell "$said" && next=$((SECONDS + minute))
+    fi
+    line=
   done
 }
 
-# Proves the crates, the lowest first, and builds the program, which is run on what is stored for it. Its time is that of the
-# start, so a source that is edited meanwhile is newer.
+# prove_one NAME JOBS: proves a library, or proves the program, builds it and runs it on what is stored for it
+prove_one() {
+  local call=(lib --jobs "$2") stored=() given=/dev/null line
+  cd "$top/crates/$1"
+  if [ "$1" = "$crate" ]; then
+    if [ -e args ]; then mapfile -t stored <args; fi
+    call=(run --jobs "$2" -- "${stored[@]}") given=stdin
+  fi
+  { rt "${call[@]}" <"$given" 2>&1 && echo "is proved"; } | while IFS= read -r line; do echo "$1: $line"; done
+}
+
+# Proves all crates, those side by side of which none stands on another.
+prove_all() {
+  local names name job jobs=() processors=${RT_JOBS:-$(nproc)}
+  while read -ra names; do
+    for name in "${names[@]}"; do
+      prove_one "$name" "$((processors / ${#names[@]} > 1 ? processors / ${#names[@]} : 1))" </dev/null &
+      jobs+=("$!")
+    done
+    for job in "${jobs[@]}"; do wait "$job" || return; done
+    jobs=()
+  done < <(crates)
+}
+
+# Proves and builds the program. Its time is that of the start, so a source that is edited meanwhile is newer.
 build() {
-  local out=$top/crates/$crate/out names=($(crates)) stored=() call given at long=
+  local out=$top/crates/$crate/out number long=
   need_kit
+  number=$(crates | wc -w)
   { mkdir -p "$out" && touch "$out/started" && : >"$out/log"; } 2>/dev/null ||
     refuse "to build it takes a folder to write to, and $out is none"
-  [ -e "$top/crates/${names[0]}/out" ] || long=", which takes 10 to 15 minutes the first time"
-  tell "proving and building$long; with --unproved nothing is proved"
-  if [ -e "$out/../args" ]; then mapfile -t stored <"$out/../args"; fi
-  for at in "${!names[@]}"; do
-    if [ "${names[at]}" = "$crate" ]; then call=(run -- "${stored[@]}") given=stdin; else call=(lib) given=/dev/null; fi
-    (cd "$top/crates/${names[at]}" && rt "${call[@]}" <"$given" 2>&1) | tee -a "$out/log" |
-      progress "crate $((at + 1)) of ${#names[@]}, ${names[at]}" ||
-      { tail -n 20 "$out/log" >&2 && refuse "it was not built; $out/log has all that was said"; }
-  done
+  [ -e "$top/crates/bitlanes/out" ] || long=", which takes 10 to 15 minutes the first time"
+  tell "proving and building$long"
+  prove_all | tee -a "$out/log" | progress "$number" ||
+    { tail -n 20 "$out/log" >&2 && refuse "it was not built; $out/log has all that was said"; }
   touch -r "$out/started" "$program"
+}
+
+# try WORDS..: runs the program without any proof. The lines that the kit says at the end of a run are left out.
+try() {
+  local status=0 said
+  tell "the kit compiles the program with checks, which takes half a minute each time and proves nothing; with --proved it proves it"
+  cd "$top/crates/$crate"
+  exec {said}> >(awk '!/^(interpreter: ended|checked: ended|run=ended) status=/ { print; fflush() }' >&2)
+  rt try -- "$@" 2>&"$said" || status=$?
+  exec {said}>&-
+  wait "$!"
+  return "$status"
+}
+
+# A standard input from which no line can come: what a program says where a read fails, before anything is built for it.
+unread() {
+  tell "$1, so a read failed, and nothing was written"
+  exit 1
+}
+
+# read_from [FILE]: standard input is the file from here on, where there is one.
+read_from() {
+  if [ $# -gt 0 ]; then
+    if [ -d "$1" ]; then refuse "$1 is a folder and no file"; fi
+    { [ -r "$1" ] && exec <"$1"; } || refuse "the file $1 cannot be read"
+  elif [ ! -e /dev/stdin ]; then
+    unread "standard input is closed"
+  elif [ -d /dev/stdin ]; then
+    unread "standard input is a folder"
+  elif [ -t 0 ]; then
+    tell "replies come after the end of input (ctrl-d)"
+  fi
+}
+
+# run_by_kit HOW [WORD..]: runs the program that is proved, which --proved builds first, or else without any proof
+run_by_kit() {
+  if [ "$1" = --proved ]; then
+    is_current || attend build
+  elif [ "$1" = --unproved ] || ! is_proved; then
+    need_kit
+    attend try "${@:2}"
+    exit
+  fi
+  exec "$program" "${@:2}"
 }

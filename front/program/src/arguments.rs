@@ -20,9 +20,9 @@ the input has ended. The commands and their replies stand in docs/COMMANDS.md, a
 Status: 0, or 1 to 3 where reading, writing or memory failed, with a sentence on standard error. It is 125 where the words
 are wrong, FILE cannot be read, or PROGRAM cannot be started or ends by another status.
 
-The script ./bits takes the same words. It builds this program by cargo, and gives it as PROGRAM one of the same sources
-that the kit proves and builds, at the first use and after a change of a source. With --unproved before all other words
-nothing is proved, and the replies are this program's own.
+The script ./bits takes the same words, and builds this program by cargo. With --proved before all other words the kit
+first proves and builds a PROGRAM of the same sources, whose replies it gives from then on until a source changes, but not
+with --unproved. Without cargo the kit runs that PROGRAM, with checks and unproved, and the one word is FILE.
 ";
 
 const WORDS: &str = "it takes --strict, --why, --engine PROGRAM, --help, --version or one FILE";
