@@ -3,13 +3,15 @@ import pathlib
 import re
 import shutil
 
-from stages import Stage
+from stages import CRATES, Stage
 
 SCRIPTS = "tools/gate"
 # What scripts of several folders of tools/ share.
 SHARED = ("tools/calls.py", "tools/kept.py", "tools/running.py")
 # The program that ./bits builds by cargo, and what builds it.
 PROGRAM, CARGO = "front/program", ("cargo", "rustc", "cc")
+# What finds crates for cargo where no registry answers.
+OFFLINE = ("tools/offline", "tools/launch")
 MAKERS = ("cc", "gcc", "g++", "clang", "make", "cargo", "rustc", "pkg-config", "valgrind", "python3")
 
 
@@ -78,12 +80,14 @@ class Plan:
 
     def first(self):
         """What needs no proof, the quickest first."""
-        script = ("bits", "use", "tools/launch", "tools/calls.py", "README.md", "crates.txt", PROGRAM)
+        script = ("bits", "use", *OFFLINE, "tools/calls.py", "README.md", "crates.txt", PROGRAM, "front/rust/src")
+        door = (*script, "front/rust", "front/c", "front/lib", "front/checks.sh", "tools/gate/door", "examples", *self.sources("bits"))
         programs = (".ci", "bits", "use", "test", "tools", "front", "bench")
         calls = (*programs, "tests/libraries.txt", "crates.txt", "README.md", "CONTRIBUTING.md")
         return [
-            Stage("./bits where it cannot start", ("tools/launch/check_bits",), script, CARGO),
+            Stage("./bits and ./use by stand-ins", ("tools/launch/check_bits",), script, CARGO, needs=(CRATES,)),
             Stage("calls that are not known", ("tools/launch/check_calls",), calls, CARGO),
+            Stage("README's commands as on a fresh machine", ("tools/gate/door",), door, CARGO, needs=("unshare", CRATES)),
         ]
 
     def scripts(self):
@@ -126,16 +130,16 @@ class Plan:
         library = self.sources("bits_c", parts=("src", "specs", "proofs"))
         gcc = [f"{it}-linux-gnu-gcc" for it in ("aarch64", "i686", "s390x")]
         qemu = ("qemu-aarch64-static", "qemu-s390x-static")
-        inputs = ("front", "tools/docs/make_api", "tools/calls.py", "tools/kept.py", *library, *self.sources("bits"))
+        inputs = ("front", *OFFLINE, "tools/docs/make_api", "tools/calls.py", "tools/kept.py", *library, *self.sources("bits"))
         front = Stage("the crate for Rust and the header for C", ("front/test",), inputs, (*MAKERS, "cmake", "dpkg-deb", *gcc, *qemu), ("README.md",))
-        crate = ("front/rust", "front/differ", "front/registry", "front/compilers")
+        crate = ("front/rust", "front/differ", *OFFLINE, "front/compilers")
         emulators = (*qemu, "wasm-ld", "node", "cargo", "rustc", "cc", *gcc)
         others = ("front/targets", "front/checks.sh", "front/erase_examples", "front/wrong", "front/wrong_lines", "tools/kept.py")
         targets = Stage("the crate on other targets", ("front/targets",), (*crate, *others), emulators)
         texts = ("docs/COMMANDS.md", "examples", "crates/bits/stdin", "crates/bits/stdout", "tools/memory/memory.txt")
-        shared = ("front/checks.sh", "front/erase_examples", "front/registry", "front/compilers", "front/tools", "tools/kept.py")
+        shared = ("front/checks.sh", "front/erase_examples", *OFFLINE, "front/compilers", "front/tools", "tools/kept.py")
         inputs = ("front/program", "front/rust/src", *shared, *texts)
-        program = Stage("the program by cargo", ("front/program/test",), inputs, ("cargo", "rustc", "cc", *gcc, *qemu))
+        program = Stage("the program by cargo", ("front/program/test",), inputs, (*CARGO, *gcc, *qemu), needs=(CRATES,))
         client = Stage("petgraph over the crate", ("front/client",), (*crate, "front/client", "front/rustdoc"), ("cargo", "rustc", "cc"))
         return [front, targets, client] * self.has("bits_c") + [program] * self.has("bits")
 
@@ -144,11 +148,11 @@ class Plan:
         uses and of what only tests use: those that have no verdict in front/wrong, and some by chance. (They are read where they
         stand, and what is written goes into other folders.)"""
         edits = self.sources(*self.crates, parts=("src", "must-fail"))
-        makers = ("erase", "erase_source.py", "erase_tables.py", "wrong", "wrong_translations", "erase_examples", "compilers", "registry")
+        makers = ("erase", "erase_source.py", "erase_tables.py", "wrong", "wrong_translations", "erase_examples", "compilers")
         made = [f"front/{it}" for it in (*makers, "c", "differ", "lib", "program", "rust")]
         texts = ("docs/COMMANDS.md", "examples", "crates/bits/stdin", "crates/bits/stdout", "tools/memory/memory.txt")
-        inputs = (*edits, *made, *texts, "tools/kept.py", "tools/mutants")
-        stage = Stage("wrong bodies seen by tests", ("front/wrong_translations", "--jobs", "1"), inputs, ("cargo", "rustc", "cc"))
+        inputs = (*edits, *made, *texts, *OFFLINE, "tools/kept.py", "tools/mutants")
+        stage = Stage("wrong bodies seen by tests", ("front/wrong_translations", "--jobs", "1"), inputs, CARGO, needs=(CRATES,))
         inputs = (*edits, *made[:5], "tests", "crates/uses", *SHARED, "tools/mutants", "tools/gate", "tools/fuzz/slow_answers.py")
         runs = Stage("wrong bodies seen by runs", ("tools/mutants/wrong_runs",), inputs)
         return [stage] * self.has("bits") + [runs] * self.has("uses")
@@ -168,16 +172,16 @@ class Plan:
 
     def last(self):
         """What runs the programs."""
-        script = ("bits", "tools/launch/build.sh", "tools/calls.py", PROGRAM)
+        script = ("bits", *OFFLINE, "tools/calls.py", PROGRAM)
         bits = (*self.sources("bits"), *script, "docs/COMMANDS.md", "examples", f"{SCRIPTS}/programs", f"{SCRIPTS}/report.sh")
         shared = ("tools/calls.py", "tools/running.py", "tools/fuzz", "tools/memory")
         uses = ("use", "tools/launch/build.sh", *(f"crates/uses/{it}" for it in ("examples", "cases", "stdin", "args")))
         commands = ("tools/docs/check_commands",)
         refusals = self.sources("test_refusals", "bits")
         stages = [
-            (["bits"], Stage("programs", (f"{SCRIPTS}/programs",), bits, CARGO)),
-            (["bits"], Stage("examples of docs/COMMANDS.md", ("tools/docs/check_commands",), (*bits, *commands), CARGO)),
-            (["bits"], Stage("lines with one byte changed", ("tools/fuzz/lines",), (*bits, *commands, *shared), CARGO)),
+            (["bits"], Stage("programs", (f"{SCRIPTS}/programs",), bits, CARGO, needs=(CRATES,))),
+            (["bits"], Stage("examples of docs/COMMANDS.md", ("tools/docs/check_commands",), (*bits, *commands), CARGO, needs=(CRATES,))),
+            (["bits"], Stage("lines with one byte changed", ("tools/fuzz/lines",), (*bits, *commands, *shared), CARGO, needs=(CRATES,))),
             (["uses"], Stage("input of the uses", ("tools/fuzz/uses",), (*self.sources("uses"), *uses, *shared))),
             (["bits", "test_refusals"], Stage("memory refused", ("tools/memory/sweep",), (*refusals, "examples", "docs/COMMANDS.md", *shared))),
         ]

@@ -1,6 +1,7 @@
 """Stages of the gate: commands whose last line is 'N passed, M failed', some of them beside others."""
 import os
 import re
+import shutil
 import subprocess
 import sys
 import threading
@@ -9,7 +10,12 @@ from dataclasses import dataclass
 
 from groups import Groups
 
+# What a stage may need that is no command: the crates that front/program names.
+CRATES = "crates for cargo"
+NO_COMMANDS = (CRATES,)
 COUNTS = re.compile(r"(\d+) passed, (\d+) failed")
+# What a script says of what it leaves out, since this machine lacks a tool for it.
+LEFT_OUT = re.compile(r"not here, so not tried: (.*)")
 # What a line has that tells of a failure, unless it ends with 'ok'.
 FAILURE = re.compile(r"(?!.*: ok$).*(?:FAILED|NOT PROVED|NOT REFUSED|BAD EDIT|UNCLEAR)")
 
@@ -23,6 +29,7 @@ class Stage:
     tools    the commands of this machine that it calls
     blocks   the pages of which it reads the blocks of code alone
     keeps    whether the command keeps what it found by itself, and so takes --anew
+    needs    what it can't try anything without: it is not begun where one of these is not here
     """
     name: str
     command: tuple
@@ -30,6 +37,7 @@ class Stage:
     tools: tuple = ()
     blocks: tuple = ()
     keeps: bool = False
+    needs: tuple = ()
 
     def words(self, anew):
         """The command to run, which takes a kept run of the same inputs in its place where it has some."""
@@ -80,6 +88,12 @@ class Run:
         passed, failed = map(int, found.groups()) if found else (0, 1)
         if self.status != 0 and failed == 0:
             failed = 1
+        left_out = ", ".join(dict.fromkeys(it[1].strip() for it in map(LEFT_OUT.match, self.lines) if it))
+        if left_out:
+            failed += self.gate.leave_out(self.stage.name, left_out, is_whole=passed + failed == 0)
+        elif passed + failed == 0:
+            self.lines.append("it tried nothing")
+            failed = 1
         if failed:
             self.gate.tell_failure(self.stage.name, self.lines[-1] if self.lines else "it said nothing")
         is_kept = any(it.startswith("kept: an earlier run") for it in self.lines[-2:])
@@ -91,9 +105,10 @@ class Run:
 
 
 class Gate:
-    """The counts of all stages, and the first failure."""
-    def __init__(self, anew=False):
+    """The counts of all stages, the first failure, and what is not tried: `lacks` has what this machine lacks that is no command."""
+    def __init__(self, anew=False, lacks=()):
         self.anew, self.passed, self.failed, self.first = anew, 0, 0, None
+        self.lacks, self.left_out = lacks, []
         self.printing, self.began, self.groups = threading.Lock(), time.monotonic(), Groups()
 
     def print(self, text):
@@ -107,16 +122,36 @@ class Gate:
             self.first = f"{name}: {line.strip():.300}"
             self.print(f"FIRST FAILURE: {self.first}\n")
 
-    def run(self, stage, folder):
-        self.print(f"== {stage.name}\n")
-        Run(stage, folder, self, is_beside=False).join()
+    def leave_out(self, name, lacking, is_whole):
+        """Says of a stage, or of a part of it, that it is not tried. The failures that this is: one in CI, and else none."""
+        what = f"{name}: not tried{'' if is_whole else ' in part'}: no {lacking}"
+        self.left_out.append(what)
+        self.print(f"== {what}\n")
+        if os.environ.get("CI") != "true":
+            return 0
+        self.tell_failure(name, f"not tried: no {lacking}")
+        return 1
 
-    def begin(self, stage, folder, nice=False, log=None):
-        """Begins a stage beside others. What it says goes into the log too, where there is one."""
-        return Run(stage, folder, self, is_beside=True, nice=nice, log=log)
+    def can_try(self, stage):
+        """Whether a stage has what it can't try anything without."""
+        lacking = [it for it in stage.needs if it in self.lacks or it not in NO_COMMANDS and not shutil.which(it)]
+        if lacking:
+            self.failed += self.leave_out(stage.name, ", ".join(lacking), is_whole=True)
+        return not lacking
+
+    def run(self, stage, folder):
+        if self.can_try(stage):
+            self.print(f"== {stage.name}\n")
+            Run(stage, folder, self, is_beside=False).join()
+
+    def begin(self, stages, folder, nice=False, log=None):
+        """Begins stages beside others. What they say goes into the log too, where there is one."""
+        return [Run(it, folder, self, is_beside=True, nice=nice, log=log) for it in stages if it and self.can_try(it)]
 
     def finish(self, note=""):
         """Prints the minutes and the counts, and answers the exit status."""
+        if self.left_out:
+            self.print("".join(f"{it}\n" for it in [f"not tried: {len(self.left_out)}", *self.left_out]))
         if self.first:
             self.print(f"FIRST FAILURE: {self.first}\n")
         used = os.times()
