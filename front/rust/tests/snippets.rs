@@ -1,6 +1,10 @@
 //! What a Rust programmer reaches for: each line compiles, and does what it says. What is refused has its reason in the repository's
 //! docs/DECISIONS.md, and stands here as it is written instead.
-use fixedbitset::{storage_words, ArrayBitSet, BitRows, Bits, BitsMut, Block, FixedBitSet};
+#[cfg(feature = "std")]
+use fixedbitset::AllocError;
+use fixedbitset::{
+    storage_words, ArrayBitSet, BitRows, Bits, BitsMut, Block, ExtendFault, FixedBitSet,
+};
 use std::collections::hash_map::DefaultHasher;
 use std::collections::HashSet;
 use std::hash::{Hash, Hasher};
@@ -213,6 +217,38 @@ fn memory() {
     assert_eq!(words, [1 << 3 | 1 << 7]);
     assert_eq!(FixedBitSet::from_words(words, 10), ten([3, 7]));
     assert_eq!(FixedBitSet::from_words(vec![!0, !0], 3).to_string(), "111");
+}
+
+/// A function whose error is any, as those of `anyhow` are.
+#[cfg(feature = "std")]
+fn grown(position: usize) -> Result<FixedBitSet, Box<dyn std::error::Error + Send + Sync>> {
+    let mut set = FixedBitSet::new();
+    set.try_grow(position)?;
+    set.try_extend([position])?;
+    Ok(set)
+}
+
+#[cfg(feature = "std")]
+#[test]
+fn errors() {
+    assert_eq!(grown(3).unwrap().to_string(), "0001");
+    let error = grown(usize::MAX).unwrap_err();
+    let bytes = error.downcast_ref::<AllocError>().unwrap().bytes();
+    assert_eq!(
+        error.to_string(),
+        format!("memory of {bytes} bytes was refused")
+    );
+}
+
+#[test]
+fn errors_are_compared() {
+    let too_long = [usize::MAX, usize::MAX - 1, usize::MAX / 2];
+    let [one, other, less] = too_long.map(FixedBitSet::try_with_capacity);
+    assert!(one == other && one != less && less != Ok(NOTHING));
+    let mut set = ten([3]);
+    assert_eq!(set.try_extend([5, usize::MAX]), Err(ExtendFault::Position));
+    assert_ne!(set.try_extend([usize::MAX]), Err(ExtendFault::Memory));
+    assert_eq!(set.try_extend([7]), Ok(()));
 }
 
 /// What is refused, as it is written instead.
