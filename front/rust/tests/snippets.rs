@@ -139,9 +139,8 @@ fn operators() {
 #[test]
 fn lists_become_sets() {
     let mut set = FixedBitSet::from([3, 9]);
-    set.extend(&[1, 4]);
-    set.extend([5, 6].iter());
-    set.extend(vec![0]);
+    set.extend([1, 4]);
+    set.extend(vec![0, 5, 6]);
     assert_eq!(set, FixedBitSet::from(vec![0, 1, 3, 4, 5, 6, 9]));
     assert_eq!(set, [0, 1, 3, 4, 5, 6, 9].into_iter().collect());
     assert_eq!(
@@ -273,7 +272,8 @@ fn instead() {
     let flags = [false, true, true];
     let set: FixedBitSet = (0..3).filter(|position| flags[*position]).collect(); // flags.into_iter().collect()
     assert_eq!(set, FixedBitSet::from([1, 2]));
-    a.extend([6_u32, 7].map(|position| position as usize)); // a.extend([6_u32, 7])
+    a.extend([6_u32].map(|position| position as usize)); // a.extend([6_u32])
+    a.extend([7].iter().copied()); // a.extend(&[7])
     a.insert_all(&[8_u32, 9].map(|position| position as usize)); // a.insert_all(&[8_u32, 9])
     a.insert(2_u32 as usize); // a.insert(2_u32)
     assert_eq!(a, ten([1, 2, 3, 5, 6, 7, 8, 9]));
