@@ -98,6 +98,21 @@ fn ranges() {
 }
 
 #[test]
+fn a_range_iterated_to_its_end_has_its_last_position() {
+    let set = FixedBitSet::with_capacity(10);
+    let [mut range, mut back] = [3..=5, 3..=5];
+    assert_eq!((range.next(), back.next_back()), (Some(3), Some(5)));
+    let counts = [&range, &back].map(|range| set.count_zeroes(range.clone()));
+    assert_eq!(counts, [2, 2]);
+    assert_eq!(
+        (range.by_ref().last(), back.by_ref().rev().last()),
+        (Some(5), Some(3))
+    );
+    assert!(range.is_empty() && back.is_empty() && [0; 10][range.clone()].is_empty());
+    assert!(set.zeroes_in(range).eq([5]) && set.zeroes_in(back).eq([3]));
+}
+
+#[test]
 fn operators() {
     let (a, b) = (ten([1, 3, 5]), FixedBitSet::from([3, 5, 7]));
     assert_eq!(&a - &b, ten([1]));
