@@ -11,6 +11,8 @@ use std::hash::{Hash, Hasher};
 use std::mem::size_of;
 use std::ops::Bound::{Excluded, Included, Unbounded};
 use std::panic::{catch_unwind, RefUnwindSafe, UnwindSafe};
+use std::sync::mpsc::channel;
+use std::time::Duration;
 
 const NOTHING: FixedBitSet = FixedBitSet::new();
 const COUNT: usize = storage_words(100);
@@ -199,6 +201,25 @@ fn tables() {
     assert!(table != other && hash_of(&table) != hash_of(&other));
     assert!(BitRows::new(0, 3) != BitRows::new(0, 4) && BitRows::new(1, 3) != BitRows::new(2, 3));
     assert_eq!(HashSet::from([table.clone(), other, table]).len(), 2);
+}
+
+/// They have so many rows that a loop over them would not end.
+#[test]
+fn tables_without_columns_are_compared_at_once() {
+    let (sender, receiver) = channel();
+    std::thread::spawn(move || {
+        let tables = [usize::MAX, usize::MAX, usize::MAX - 1].map(|rows| BitRows::new(rows, 0));
+        let [one, other, shorter] = &tables;
+        let hashes = [one, other, shorter].map(hash_of);
+        sender.send([
+            one == other,
+            one == shorter,
+            hashes[0] == hashes[1],
+            hashes[0] == hashes[2],
+        ])
+    });
+    let found = receiver.recv_timeout(Duration::from_secs(10));
+    assert_eq!(found, Ok([true, false, true, false]));
 }
 
 #[test]
