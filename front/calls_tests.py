@@ -106,7 +106,8 @@ class Method:
             given = ", ".join(found)
         made = f"s.{self.name}({given})"
         if self.is_walk():
-            made = f"all({made}) + &mixed({made}, n)"
+            # (Upstream's `zeroes` goes from the front alone. A row of beyond.rs takes ours from both ends.)
+            made = f"all({made})" + f" + &mixed({made}, n)" * (self.name != "zeroes")
         elif RESULTS[self.result]:
             made = f"text({made})"
         taken = ["s", *(it if re.search(rf"\b{it}\b", made.replace(self.name, "", 1)) else "_" for it in ("t", "n"))]

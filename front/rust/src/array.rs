@@ -36,7 +36,11 @@ pub struct ArrayBitSet<const WORDS: usize> {
 impl<const WORDS: usize> ArrayBitSet<WORDS> {
     /// The set of this length with no position.
     ///
-    /// **Panics** where the length needs another number of words, in a constant when it is compiled.
+    /// **Panics** where the length needs another number of words, in a constant when it is compiled:
+    ///
+    /// ```compile_fail,E0080
+    /// const NONE: fixedbitset::ArrayBitSet<4> = fixedbitset::ArrayBitSet::new(300); // a length that takes 8 words
+    /// ```
     ///
     /// Not proved: it writes zeros.
     ///
@@ -49,9 +53,15 @@ impl<const WORDS: usize> ArrayBitSet<WORDS> {
     #[must_use]
     #[track_caller]
     pub const fn new(length: usize) -> Self {
+        // (A panic in a constant can format no number.)
+        let count = storage_words(length);
         assert!(
-            storage_words(length) == WORDS,
-            "a set of this length has another number of words"
+            WORDS >= count,
+            "the words are too few for the length, which takes length.div_ceil(256) * 4"
+        );
+        assert!(
+            WORDS <= count,
+            "the words are too many for the length, which takes length.div_ceil(256) * 4"
         );
         let words = [0; WORDS];
         ArrayBitSet { words, length }

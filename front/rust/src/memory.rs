@@ -6,6 +6,9 @@ use crate::{panics, shim, storage_words, AllocError, Block, ExtendFault, FixedBi
 use alloc::vec::Vec;
 use core::alloc::Layout;
 use core::fmt::{Display, Formatter, Result as Written};
+use core::mem::discriminant;
+#[cfg(feature = "std")]
+use std::error::Error;
 
 impl AllocError {
     /// How many bytes the call needed.
@@ -40,6 +43,29 @@ impl Display for ExtendFault {
             ExtendFault::Memory => "memory was refused",
         })
     }
+}
+
+/// Declares that an error is one of Rust's, and that two are equal where this part of both is.
+macro_rules! errors {
+    ($($name:ident: $part:expr;)*) => { $(
+        /// Not proved: it has no call of its own.
+        #[cfg(feature = "std")]
+        impl Error for $name {}
+
+        /// Not proved: it compares what the error has.
+        impl PartialEq for $name {
+            fn eq(&self, other: &Self) -> bool {
+                $part(self) == $part(other)
+            }
+        }
+
+        /// Not proved: it has no call of its own.
+        impl Eq for $name {}
+    )* };
+}
+errors! {
+    AllocError: AllocError::bytes;
+    ExtendFault: discriminant;
 }
 
 /// What a call returns that may fail to allocate, for one that ends the program then.

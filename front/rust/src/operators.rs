@@ -153,15 +153,6 @@ impl FromIterator<usize> for FixedBitSet {
     }
 }
 
-/// Proved: what each position leaves, once the length is great enough ([contract](crate::contracts#fixedbitsetbitsmutinsert)).
-impl<'a> Extend<&'a usize> for FixedBitSet {
-    /// The same for borrowed positions.
-    #[track_caller]
-    fn extend<I: IntoIterator<Item = &'a usize>>(&mut self, positions: I) {
-        self.extend(positions.into_iter().copied());
-    }
-}
-
 /// Declares that a list of positions becomes the set of them.
 macro_rules! lists {
     ($($name:ty $(where [$($of:tt)*])?;)*) => { $(

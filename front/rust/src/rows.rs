@@ -175,13 +175,20 @@ tables! {
     RowsMut<'_>;
 }
 
+impl BitRows {
+    /// The rows that have words: none where there are no columns, however many rows there are.
+    fn sets(&self) -> impl Iterator<Item = Bits<'_>> {
+        let count = if self.columns() > 0 { self.rows() } else { 0 };
+        (0..count).map(|row| self.row_bits(row))
+    }
+}
+
 /// Proved: of two rows whether they are equal ([contract](crate::contracts#fixedbitsetbitsis_equal)).
 impl PartialEq for BitRows {
     /// Whether both have the same numbers of rows and of columns, and the same bits.
     fn eq(&self, other: &Self) -> bool {
-        let rows = self.rows();
-        let is_like = rows == other.rows() && self.columns() == other.columns();
-        is_like && (0..rows).all(|row| self.row_bits(row) == other.row_bits(row))
+        let is_like = self.rows() == other.rows() && self.columns() == other.columns();
+        is_like && self.sets().eq(other.sets())
     }
 }
 
@@ -194,6 +201,6 @@ impl Eq for BitRows {}
 impl Hash for BitRows {
     fn hash<H: Hasher>(&self, state: &mut H) {
         self.rows().hash(state);
-        (0..self.rows()).for_each(|row| self.row_bits(row).hash(state));
+        self.sets().for_each(|row| row.hash(state));
     }
 }

@@ -167,8 +167,10 @@ pub mod alloc {
         Abort,
     }
 
-    /// An allocation failed: by the allocator, or since no memory is so large. Two of these cannot be compared: in Rattle all are
-    /// equal.
+    // (In Rattle all are equal, so no proved module may compare two. Its `PartialEq` stands in memory.rs: front/program and
+    // front/c, which do not have that file, would not compile a module that did.)
+    /// An allocation failed: by the allocator, or since no memory is so large. Two are equal where they have the same number of
+    /// bytes.
     ///
     /// Not proved: it is a number.
     ///

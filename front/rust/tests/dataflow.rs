@@ -193,6 +193,19 @@ fn a_node_that_is_entered_and_led_back_to() {
 }
 
 #[test]
+fn a_node_has_one_boundary() {
+    for (direction, meet) in WAYS {
+        let mut problem = Problem::new(2, 4);
+        problem.edge(0, 1);
+        let entered = [0, 1][direction as usize];
+        problem.boundary(entered).insert(1);
+        problem.boundary(entered).insert(3);
+        let both: &[usize] = &[1, 3];
+        assert_rows(&problem.solve(direction, meet), &[[both, both]; 2]);
+    }
+}
+
+#[test]
 fn nothing_to_solve() {
     for (direction, meet) in WAYS {
         assert_eq!(Problem::new(0, 9).solve(direction, meet).rounds(), 1);

@@ -286,6 +286,17 @@ fn words_cross_without_a_copy() {
 }
 
 #[test]
+fn words_that_are_lacking_are_zeros() {
+    for count in 0..6 {
+        for bits in [0, 1, 64, 65, 130, 256, 257, 320, 400, 1_000] {
+            let set = FixedBitSet::from_words(vec![Block::MAX; count], bits);
+            assert_eq!(set.len(), bits);
+            assert!(set.ones().eq(0..bits.min(64 * count)), "{count}, {bits}");
+        }
+    }
+}
+
+#[test]
 fn what_grows_doubles_its_memory() {
     let calls = calls! {
         |set, longer| set.grow(longer.len());

@@ -1,12 +1,18 @@
 //! What a Rust programmer reaches for: each line compiles, and does what it says. What is refused has its reason in the repository's
 //! docs/DECISIONS.md, and stands here as it is written instead.
-use fixedbitset::{storage_words, ArrayBitSet, BitRows, Bits, BitsMut, Block, FixedBitSet};
+#[cfg(feature = "std")]
+use fixedbitset::AllocError;
+use fixedbitset::{
+    storage_words, ArrayBitSet, BitRows, Bits, BitsMut, Block, ExtendFault, FixedBitSet,
+};
 use std::collections::hash_map::DefaultHasher;
 use std::collections::HashSet;
 use std::hash::{Hash, Hasher};
 use std::mem::size_of;
 use std::ops::Bound::{Excluded, Included, Unbounded};
 use std::panic::{catch_unwind, RefUnwindSafe, UnwindSafe};
+use std::sync::mpsc::channel;
+use std::time::Duration;
 
 const NOTHING: FixedBitSet = FixedBitSet::new();
 const COUNT: usize = storage_words(100);
@@ -94,6 +100,21 @@ fn ranges() {
 }
 
 #[test]
+fn a_range_iterated_to_its_end_has_its_last_position() {
+    let set = FixedBitSet::with_capacity(10);
+    let [mut range, mut back] = [3..=5, 3..=5];
+    assert_eq!((range.next(), back.next_back()), (Some(3), Some(5)));
+    let counts = [&range, &back].map(|range| set.count_zeroes(range.clone()));
+    assert_eq!(counts, [2, 2]);
+    assert_eq!(
+        (range.by_ref().last(), back.by_ref().rev().last()),
+        (Some(5), Some(3))
+    );
+    assert!(range.is_empty() && back.is_empty() && [0; 10][range.clone()].is_empty());
+    assert!(set.zeroes_in(range).eq([5]) && set.zeroes_in(back).eq([3]));
+}
+
+#[test]
 fn operators() {
     let (a, b) = (ten([1, 3, 5]), FixedBitSet::from([3, 5, 7]));
     assert_eq!(&a - &b, ten([1]));
@@ -135,9 +156,8 @@ fn operators() {
 #[test]
 fn lists_become_sets() {
     let mut set = FixedBitSet::from([3, 9]);
-    set.extend(&[1, 4]);
-    set.extend([5, 6].iter());
-    set.extend(vec![0]);
+    set.extend([1, 4]);
+    set.extend(vec![0, 5, 6]);
     assert_eq!(set, FixedBitSet::from(vec![0, 1, 3, 4, 5, 6, 9]));
     assert_eq!(set, [0, 1, 3, 4, 5, 6, 9].into_iter().collect());
     assert_eq!(
@@ -183,6 +203,25 @@ fn tables() {
     assert_eq!(HashSet::from([table.clone(), other, table]).len(), 2);
 }
 
+/// They have so many rows that a loop over them would not end.
+#[test]
+fn tables_without_columns_are_compared_at_once() {
+    let (sender, receiver) = channel();
+    std::thread::spawn(move || {
+        let tables = [usize::MAX, usize::MAX, usize::MAX - 1].map(|rows| BitRows::new(rows, 0));
+        let [one, other, shorter] = &tables;
+        let hashes = [one, other, shorter].map(hash_of);
+        sender.send([
+            one == other,
+            one == shorter,
+            hashes[0] == hashes[1],
+            hashes[0] == hashes[2],
+        ])
+    });
+    let found = receiver.recv_timeout(Duration::from_secs(10));
+    assert_eq!(found, Ok([true, false, true, false]));
+}
+
 #[test]
 fn rows_are_sets() {
     let (mut table, set) = (BitRows::new(4, 70), FixedBitSet::from([3, 69]));
@@ -215,6 +254,38 @@ fn memory() {
     assert_eq!(FixedBitSet::from_words(vec![!0, !0], 3).to_string(), "111");
 }
 
+/// A function whose error is any, as those of `anyhow` are.
+#[cfg(feature = "std")]
+fn grown(position: usize) -> Result<FixedBitSet, Box<dyn std::error::Error + Send + Sync>> {
+    let mut set = FixedBitSet::new();
+    set.try_grow(position)?;
+    set.try_extend([position])?;
+    Ok(set)
+}
+
+#[cfg(feature = "std")]
+#[test]
+fn errors() {
+    assert_eq!(grown(3).unwrap().to_string(), "0001");
+    let error = grown(usize::MAX).unwrap_err();
+    let bytes = error.downcast_ref::<AllocError>().unwrap().bytes();
+    assert_eq!(
+        error.to_string(),
+        format!("memory of {bytes} bytes was refused")
+    );
+}
+
+#[test]
+fn errors_are_compared() {
+    let too_long = [usize::MAX, usize::MAX - 1, usize::MAX / 2];
+    let [one, other, less] = too_long.map(FixedBitSet::try_with_capacity);
+    assert!(one == other && one != less && less != Ok(NOTHING));
+    let mut set = ten([3]);
+    assert_eq!(set.try_extend([5, usize::MAX]), Err(ExtendFault::Position));
+    assert_ne!(set.try_extend([usize::MAX]), Err(ExtendFault::Memory));
+    assert_eq!(set.try_extend([7]), Ok(()));
+}
+
 /// What is refused, as it is written instead.
 #[test]
 fn instead() {
@@ -237,7 +308,8 @@ fn instead() {
     let flags = [false, true, true];
     let set: FixedBitSet = (0..3).filter(|position| flags[*position]).collect(); // flags.into_iter().collect()
     assert_eq!(set, FixedBitSet::from([1, 2]));
-    a.extend([6_u32, 7].map(|position| position as usize)); // a.extend([6_u32, 7])
+    a.extend([6_u32].map(|position| position as usize)); // a.extend([6_u32])
+    a.extend([7].iter().copied()); // a.extend(&[7])
     a.insert_all(&[8_u32, 9].map(|position| position as usize)); // a.insert_all(&[8_u32, 9])
     a.insert(2_u32 as usize); // a.insert(2_u32)
     assert_eq!(a, ten([1, 2, 3, 5, 6, 7, 8, 9]));

@@ -79,6 +79,21 @@ fn damaged_texts_are_errors() {
 }
 
 #[test]
+fn an_error_names_the_field() {
+    for (text, error) in [
+        (r#"{"data": []}"#, "missing field `length`"),
+        (r#"{"length": 10}"#, "missing field `data`"),
+        (r#"{"length": 1, "length": 1}"#, "duplicate field `length`"),
+        (r#"{"data": [], "data": []}"#, "duplicate field `data`"),
+        ("[]", "invalid length 0, expected a length"),
+        ("[10]", "invalid length 1, expected a length"),
+    ] {
+        let found = from_str::<FixedBitSet>(text).unwrap_err().to_string();
+        assert!(found.starts_with(error), "{found}");
+    }
+}
+
+#[test]
 fn each_text_of_one_byte_changed_is_read_or_an_error() {
     let text = r#"{"length":66,"data":[1,2,0,255]}"#.as_bytes();
     for place in 0..text.len() {

@@ -41,7 +41,7 @@ pub const MADE: &[(&str, Call)] = &[
     ("is_disjoint", Asks(|s, t, _| text(s.is_disjoint(t)))),
     ("is_subset", Asks(|s, t, _| text(s.is_subset(t)))),
     ("ones", Asks(|s, _, n| all(s.ones()) + &mixed(s.ones(), n))),
-    ("zeroes", Asks(|s, _, n| all(s.zeroes()) + &mixed(s.zeroes(), n))),
+    ("zeroes", Asks(|s, _, _| all(s.zeroes()))),
     ("intersection", Asks(|s, t, n| all(s.intersection(t)) + &mixed(s.intersection(t), n))),
     ("difference", Asks(|s, t, n| all(s.difference(t)) + &mixed(s.difference(t), n))),
     ("union", Asks(|s, t, n| all(s.union(t)) + &mixed(s.union(t), n))),
