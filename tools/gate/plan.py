@@ -126,7 +126,7 @@ class Plan:
         library = self.sources("bits_c", parts=("src", "specs", "proofs"))
         gcc = [f"{it}-linux-gnu-gcc" for it in ("aarch64", "i686", "s390x")]
         qemu = ("qemu-aarch64-static", "qemu-s390x-static")
-        inputs = ("front", "tools/docs/make_api", "tools/calls.py", "tools/kept.py", *library, *self.sources("bits"))
+        inputs = ("front", "tools/docs/make_api", "tools/docs/check_contracts", "tools/calls.py", "tools/kept.py", *library, *self.sources("bits"))
         front = Stage("the crate for Rust and the header for C", ("front/test",), inputs, (*MAKERS, "cmake", "dpkg-deb", *gcc, *qemu), ("README.md",))
         crate = ("front/rust", "front/differ", "front/registry", "front/compilers")
         emulators = (*qemu, "wasm-ld", "node", "cargo", "rustc", "cc", *gcc)
