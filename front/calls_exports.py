@@ -208,7 +208,10 @@ def texts(folder):
         def make(name, _, target=Names(file, text)):
             name = name.removeprefix("bits_")
             row = rows.get(name) or refuse(f"bits_{name} stands between marks, and its row has no `docs`")
-            there[name] = of_views(views, row.get("view", name))
+            view = row.get("view", name)
+            there[name] = of_views(views, view)
+            if view != name and ({("Bits", name), ("BitsMut", name)} & views.keys() or not set(name.split("_")) & set(view.split("_"))):
+                refuse(f"bits_{name} is not the method {view} by its name")
             return export(Export(name, row, there[name], target))
 
         made[file] = remade(file, text, make)

@@ -5,6 +5,10 @@ import tomllib
 
 EXPORT = re.compile(
     r'((?:^///.*\n)+)(?:^#\[.*\]\n)*^pub extern "C" fn bits_(\w+)(<\'a>)?\(([^)]*)\)(?: -> (\w+))?\n((?: .*\n)+)\{\n', re.M)
+# An import of a source, and a word and a sign of a clause.
+IMPORT = re.compile(r"^ghost use Rattle\.([\w.]+?)(?: as (\w+)|\.\{([^}]*)\});$", re.M)
+WORD = re.compile(r"(?<![\w.])[^\W\d]\w*(?:\.\w+)*")
+SIGN = re.compile(r"[^\w\s().,\[\]]+")
 # A row may have these.
 KEYS = {"c", "beyond", "slow", "given", "docs", "view", "names"}
 # What the number next to a slice is called in C, by the slice and whether it is written.
@@ -16,6 +20,45 @@ NUMBERS = {
 
 def refuse(what):
     sys.exit(f"calls: {what}")
+
+
+class Names:
+    """The names that the clauses of a source import."""
+
+    def __init__(self, file, text):
+        self.file, self.files, self.names, found = file, {}, {}, IMPORT.findall(text)
+        if len(found) != len(re.findall(r"^ghost use\b", text, re.M)):
+            refuse(f"{file} has an import of another form")
+        for path, alias, names in found:
+            for word in [alias] if alias else re.split(r",\s*", names.strip().rstrip(",")):
+                table, meant = (self.files, path) if alias else (self.names, (path, word))
+                if table.setdefault(word, meant) != meant:
+                    refuse(f"{file} imports {word} of two files")
+
+    def meant(self, word):
+        """The file and the name that a word means, or nothing."""
+        alias, _, name = word.partition(".")
+        return (self.files[alias], name) if alias in self.files else self.names.get(word)
+
+    def said(self, meant):
+        """The word that means this name of a file."""
+        if meant in self.names.values():
+            return meant[1]
+        alias = next((alias for alias, path in self.files.items() if path == meant[0]), None)
+        return f"{alias}.{meant[1]}" if alias else refuse(f"{self.file} does not import Rattle.{'.'.join(meant)}")
+
+    def files_of(self, sign):
+        """The files of which it imports operators with this sign."""
+        return {path for name, (path, _) in self.names.items() if sign in name.split("◌")}
+
+    def signs(self, term):
+        """The signs of a term that operators of other files have."""
+        return [it for it in dict.fromkeys(SIGN.findall(term)) if self.files_of(it)]
+
+    def has_sign(self, sign, files):
+        """Refuses a sign that stands for another operator here than that of these files."""
+        if self.files_of(sign) != files:
+            refuse(f"{self.file} does not import Rattle.{min(files)}.{sign}")
 
 
 class Parameter:
@@ -78,8 +121,12 @@ def closed(stored):
     for name, row in (it for table in tables for it in table.items()):
         if unknown := row.keys() - KEYS:
             refuse(f"calls.toml: {name} has {min(unknown)}, which is not known")
-        if "given" in row and "slow" not in row:
+        if "given" in row and not row.get("slow"):
             refuse(f"calls.toml: {name} has `given` and no `slow`")
+        if row.get("given") and not all(re.search(r"\bn\.|\bt\b", it) for it in row["given"].split(",")):
+            refuse(f"calls.toml: {name} is always given the same: {row['given']}")
+        if "c" in row and ("docs" in row or row["c"] not in (name.replace("_take", "_batch"), f"{name}_iter")):
+            refuse(f"calls.toml: {name} has the name {row['c']} in C, which is not that of its symbol")
     named = [name for table in tables for name in table]
     if twice := {name for name in named if named.count(name) > 1}:
         refuse(f"calls.toml has two rows for {min(twice)}")

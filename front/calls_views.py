@@ -3,12 +3,10 @@ source imports, breaks a function into lines, and puts functions between marks."
 import functools
 import re
 
-from calls_source import refuse
+from calls_source import WORD, Names, refuse
 from calls_tests import PUBLISH
 
 WIDTH = 100
-IMPORT = re.compile(r"^ghost use Rattle\.([\w.]+?)(?: as (\w+)|\.\{([^}]*)\});$", re.M)
-CLAUSE = re.compile(r"(requires|ensures)\s+(?:(\w+)\s*)?\{(.*)\}", re.S)
 # Parentheses with at most three pairs in each other.
 GROUP = r"\(((?:[^()]|\((?:[^()]|\((?:[^()]|\([^()]*\))*\))*\))*)\)"
 BECOMES = re.compile(rf"Becomes self\.old self\.new (?:{GROUP}|(self\.old))")
@@ -17,37 +15,11 @@ MARKS = re.compile(r"^( *(?:/\*|//) made by front/calls.*\n)([\s\S]*?)(^ *(?:/\*
 FUNCTION = re.compile(r'^ *(?:pub (?:extern "C" )?fn |// )(\w+)', re.M)
 
 
-class Names:
-    """The names that the clauses of a source import."""
-
-    def __init__(self, file, text):
-        self.file, self.files, self.names = file, {}, {}
-        for path, alias, names in IMPORT.findall(text):
-            if alias:
-                self.files[alias] = path
-            self.names |= {it: (path, it) for it in re.split(r",\s*", names) if it}
-
-    def meant(self, word):
-        """The file and the name that a word means, or nothing."""
-        alias, _, name = word.partition(".")
-        return (self.files[alias], name) if alias in self.files else self.names.get(word)
-
-    def said(self, meant):
-        """The word that means this name of a file."""
-        if meant in self.names.values():
-            return meant[1]
-        alias = next((alias for alias, path in self.files.items() if path == meant[0]), None)
-        return f"{alias}.{meant[1]}" if alias else refuse(f"{self.file} does not import Rattle.{'.'.join(meant)}")
-
-
 class Method(PUBLISH.Signature):
     """A proved function, and the names that its clauses import."""
 
     def __init__(self, owner, item, names):
-        super().__init__(owner, item)
-        self.imported = names
-        found = [CLAUSE.fullmatch(token.text).groups() for token in item.tokens if token.kind == "clause"]
-        self.clauses = [(kind, name or "", " ".join(term.split())) for kind, name, term in found]
+        super().__init__(owner, item, names)
         self.pairs = [it.split(": ", 1) for it in self.parameters]
 
     def look_up(self):
@@ -69,7 +41,9 @@ class Method(PUBLISH.Signature):
             meant = self.imported.meant(word[0])
             return target.said(meant) if meant else word[0]
 
-        return re.sub(r"(?<![\w.])[^\W\d]\w*(?:\.\w+)*", in_target, term)
+        for sign in self.imported.signs(term):
+            target.has_sign(sign, self.imported.files_of(sign))
+        return WORD.sub(in_target, term)
 
 
 @functools.cache

@@ -271,6 +271,22 @@ PARTS = {
 LEFT_OUT = ("`Err`", "The set is then as it was.", "(`range_is_valid`)", "`to_value`", "It writes `bits / 64` words",
             "It writes each word as 0", "It writes each word once: a row", "So it is where there would be", "`counted::close`")
 
+# Where the names and signs of what a call asks are defined. Another definition of the same name is refused.
+PRELUDE, BITS, RANGES, SLOTS = "std.specs.Prelude", "fixedbitset.specs.Bits", "fixedbitset.specs.Ranges", "bitslots.specs.Slots"
+MEANT = {
+    **dict.fromkeys(("IsTrue", "length", "max", "min", "prelude.length"), PRELUDE), "All": "std.specs.List",
+    **dict.fromkeys(("model.words_needed", "storage_words", "words_needed"), BITS),
+    **dict.fromkeys(("is_valid", "over", "ranges.is_valid"), RANGES), **dict.fromkeys(("IsTaken", "IsTakenStretch"), SLOTS),
+    **dict.fromkeys(("held", "value"), "fixedbitset.specs.Views"), "IsFinite": "std.specs.Iterator",
+    "IsClean": "fixedbitset.specs.Stored", "IsTable": "bitrows.specs.Stored",
+}
+SIGNS = dict.fromkeys(("<", "≤", "≡", "+", "-", "*", "^"), PRELUDE)
+# The ghost fields of views, by their crate and type.
+GHOST_FIELDS = {
+    **{("fixedbitset", it): "clean: { IsClean length words.now }," for it in ("Bits", "BitsMut")},
+    **{("bitrows", it): "clean: { IsTable rows columns words.now }," for it in ("Rows", "RowsMut")},
+}
+
 # Calls of a walk in turn that have another name as Rust's traits have them.
 RENAMED = {"take_first": "next", "take_last": "next_back"}
 

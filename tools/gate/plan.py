@@ -130,7 +130,8 @@ class Plan:
         library = self.sources("bits_c", parts=("src", "specs", "proofs"))
         gcc = [f"{it}-linux-gnu-gcc" for it in ("aarch64", "i686", "s390x")]
         qemu = ("qemu-aarch64-static", "qemu-s390x-static")
-        inputs = ("front", *OFFLINE, "tools/docs/make_api", "tools/calls.py", "tools/kept.py", *library, *self.sources("bits"))
+        docs = [f"tools/docs/{it}" for it in ("make_api", "check_contracts")]
+        inputs = ("front", *OFFLINE, *docs, "tools/calls.py", "tools/kept.py", *library, *self.sources("bits"))
         front = Stage("the crate for Rust and the header for C", ("front/test",), inputs, (*MAKERS, "cmake", "dpkg-deb", *gcc, *qemu), ("README.md",))
         crate = ("front/rust", "front/differ", *OFFLINE, "front/compilers")
         emulators = (*qemu, "wasm-ld", "node", "cargo", "rustc", "cc", *gcc)
