@@ -219,6 +219,7 @@ SET_PARAMETERS = {
     "&[u8]": ("{}: &[u8]", "{}"),
     "&Self": ("{}: &FixedBitSet", "&{}.set"),
     "&'a FixedBitSet": ("{}: &'a FixedBitSet", "&{}.set"),
+    "&[Block]": ("{}: &[Block]", "{}"),
     "&'a [Block]": ("{}: &'a [Block]", "{}"),
     "&'a mut [Block]": ("{}: &'a mut [Block]", "{}"),
     "Bits<'_>": ("{}: Bits<'_>", "{}.view"),
@@ -249,8 +250,9 @@ SET_RESULTS = {
 # Calls of which the one alone is made that says where memory is refused. The other is a trait's, or in lib.rs two calls, so that one
 # with room saves no registers.
 TRIED = {"clone_from", "extend", "from_iter", "grow_and_insert"}
-# The calls that make a view.
-MAKERS = {("Bits", "over"), ("BitsMut", "over"), ("BitsMut", "settle"), ("BitsMut", "as_bits"), ("FixedBitSet", "as_bits")}
+# The calls that make a view, or say whether words are those of one.
+MAKERS = {
+    ("Bits", "fits"), ("Bits", "over"), ("BitsMut", "over"), ("BitsMut", "settle"), ("BitsMut", "as_bits"), ("FixedBitSet", "as_bits")}
 # Calls that go over words and are no part of the program of each that makes them.
 OUTLINED = {"union_with", "symmetric_difference_with", "union_with_change", "symmetric_difference_with_change",
             "union_with_difference"}

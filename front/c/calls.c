@@ -232,12 +232,13 @@ static void tables(void) {
 
 static void ranks(void) {
     const size_t some[] = {3, 64, 70, 600};
-    size_t directory[2] = {7, 7};
+    size_t directory[2] = {11, 13};
     bits set = of(601, 4, some), none = empty(0);
     bits_ranks ranks = BITS_RANKS;
     assert(bits_rank(&ranks, 9) == 0 && bits_select(&ranks, 0) == BITS_NONE);
     assert(bits_ranks_entries(0) == 0 && bits_ranks_entries(512) == 1 && bits_ranks_entries(601) == 2);
-    assert(!bits_ranks_fill(&ranks, &set, directory, 1) && directory[0] == 7 && bits_rank(&ranks, 601) == 0);
+    assert(!bits_ranks_fill(&ranks, &set, directory, 1) && bits_rank(&ranks, 601) == 0);
+    assert(!bits_ranks_fill(&ranks, &none, directory, 2) && directory[0] == 11 && directory[1] == 13);
     assert(bits_ranks_fill(&ranks, &set, directory, 2) && directory[0] == 0 && directory[1] == 3);
     assert(bits_rank(&ranks, 3) == 0 && bits_rank(&ranks, 65) == 2 && bits_rank(&ranks, SIZE_MAX) == 4);
     assert(bits_select(&ranks, 0) == 3 && bits_select(&ranks, 3) == 600 && bits_select(&ranks, 4) == BITS_NONE);

@@ -7,7 +7,7 @@ use Rattle.std.proofs.lemmas.Bool.{cases_eq}
 use Rattle.std.proofs.lemmas.Grind.{common_steps}
 use Rattle.std.proofs.lemmas.List.{drop-take, length-set, length-append, length-take, length-drop, length-replicate}
 use Rattle.std.proofs.lemmas.List.{take-replicate, drop-replicate, get_or-replicate, get_or-set_same}
-use Rattle.std.proofs.lemmas.List.{get_or-set_other, get_or_past, with_items_is, set-get_or, take-take}
+use Rattle.std.proofs.lemmas.List.{get_or-set_other, get_or_past, with_items_is, set-get_or, take-take, take_all}
 use Rattle.std.proofs.lemmas.List.{drop-drop, length-take-le, get_or-take, get_or-drop}
 use Rattle.std.proofs.lemmas.List.FromFn.{get_or-map-range_with_len, fill_by_all}
 use Rattle.std.proofs.lemmas.Slice.{take-put_mid_below, drop-put_mid, between-put_mid}
@@ -254,6 +254,33 @@ module _ (n w count at : ℕ) (ws : List ℕ) (within : at ≤ count) where
       ∙ get_or-table n w count ws (at + i) (empty 0) (omega arith)
       ∙ ap (of_words n) (sym (row-high w at ws i)))
       ∙ rw columns-table refl
+
+-- ---- a table of one row
+
+module _ (n w count : ℕ) (ws : List ℕ) (one : count ≡ 1) (long : length ws ≡ count * w) where
+  only_row : row_words w ws 0 ≡ ws
+  only_row =
+      let first : 0 * w ≡ 0 = omega arith in
+      let all : length ws ≡ 1 * w = long ∙ ap (λ k. k * w) one in
+      ap (λ k. take w (drop k ws)) first ∙ take_all w ws (omega (arith, all))
+
+  pub only_clean : AreRows n w count ws → IsClean n ws
+  only_clean are = let first = are.each 0 (omega (arith, one)) in rw only_row at first
+
+  -- where it is a row of another table, that row is the set of its words
+  pub only_value : (t : Table) (row : ℕ) → table_of n w count ws ≡ rows_before (rows_from t row) 1
+      → of_words n ws ≡ row_of t row
+  only_value t row same =
+      let here : row + 0 ≡ row = omega arith in
+      ap (of_words n) (sym only_row)
+      ∙ sym (get_or-table n w count ws 0 (empty 0) (omega (arith, one)))
+      ∙ ap (λ u. row_of u 0) same
+      ∙ get_or-take 1 (drop row t.rows) 0 (empty 0) (omega arith)
+      ∙ get_or-drop row t.rows 0 (empty 0)
+      ∙ ap (row_of t) here
+
+pub rows_after : (t : Table) (row : ℕ) → rows_from (rows_from t row) 1 ≡ rows_from t (row + 1)
+rows_after t row = λ i. record { columns = t.columns; rows = drop-drop 1 row t.rows i }
 
 -- ---- a row joined with itself
 

@@ -91,7 +91,7 @@ pub extern "C" fn bits_settle(words: &mut [Block], length: usize, kept: usize) -
 pub extern "C" fn bits_is_clean(words: &[Block], length: usize) -> bool
     ensures { IsTrue result ↔ IsClean length words.now }
 {
-    Bits::over(words, length).is_some()
+    Bits::fits(words, length)
 }
 
 // made by front/calls

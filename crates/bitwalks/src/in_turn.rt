@@ -5,6 +5,7 @@ ghost use Rattle.std.specs.Prelude.{◌≡◌, ℕ, ◌+◌, ◌*◌, ◌^◌, �
 ghost use Rattle.std.specs.Prelude.{[], true, false, length, Some, IfSome};
 ghost use Rattle.std.specs.Iterator.{YieldsFirst, YieldsLast, UpTo, at_most};
 ghost use Rattle.bitlanes.specs.Words.{lane_steps};
+ghost use Rattle.bitwords.specs.Steps.{CountsLeft};
 ghost use Rattle.bitwalks.specs.Pairs.{WalksFront, WalksBack};
 ghost use Rattle.bitwalks.specs.PairsFacts.{walk_stays, walk_stays_back};
 
@@ -93,15 +94,21 @@ pub trait Counted: Part {
     /// How many steps a count takes at most.
     ghost most_steps: { Self → ℕ };
 
+    /// Whether a count may take the counter from the one number to the other.
+    ghost counts: { Self → ℕ → ℕ → Type 0 };
+
     /// How many items are left. Precondition: this number fits `usize`.
     fn count_items(self, steps: &mut Steps) -> usize
         requires { length (Self.items self) < 2 ^ 64 }
         ensures value { result ≡ length (Self.items self) }
-        ensures cost { steps.new ≤ steps.old + most_steps self };
+        ensures cost { steps.new ≤ steps.old + most_steps self }
+        ensures exact { counts self steps.old steps.new };
 }
 
 impl<M: Middle + Drop> Counted for Cursor<M> {
     ghost most_steps = { λ walk. lane_steps (length walk.words) + 2 };
+
+    ghost counts = { λ walk. CountsLeft M.words M.count_steps walk.words };
 
     #[inline]
     fn count_items(self, steps: &mut Steps) -> usize {
@@ -259,8 +266,8 @@ impl<A: Part + Drop, B: Part + Drop> InTurn<A, B> {
 }
 
 impl<A: Counted + Drop, B: Counted + Drop> InTurn<A, B> {
-    /// How many items both iterators have left. Precondition: this number fits `usize`. It takes at
-    /// most as many steps as a count of the one and of the other.
+    /// How many items both iterators have left. Precondition: this number fits `usize`. It takes
+    /// exactly the steps of a count of the one and of the other.
     ///
     /// ```
     /// let first = Cursor::over(Plain { words: [9, 1].iter() });
@@ -274,6 +281,8 @@ impl<A: Counted + Drop, B: Counted + Drop> InTurn<A, B> {
         requires { length (A.items self.first ++ B.items self.second) < 2 ^ 64 }
         ensures value { result ≡ length (A.items self.first ++ B.items self.second) }
         ensures cost { steps.new ≤ steps.old + A.most_steps self.first + B.most_steps self.second }
+        ensures exact { (between : ℕ) × A.counts self.first steps.old between
+            × B.counts self.second between steps.new }
     {
         let (first, second) = self.into_walks();
         first.count_items(steps) + second.count_items(steps)

@@ -205,8 +205,8 @@ impl IntoOnes {
 
     /// How many positions are left. Precondition: this number fits `usize`.
     ///
-    /// It goes over the words and over no positions, in as many steps as
-    /// [`Cursor::count_left`](bitwords::cursors::Cursor::count_left).
+    /// It goes over the words and over no positions: with `m` words between the two that the
+    /// iterator holds it takes exactly `m / 4` steps, rounded up, and one more.
     ///
     /// ```
     /// let words = [8, 0, 1].to_vec(alloc)?;
@@ -218,6 +218,7 @@ impl IntoOnes {
         requires { length self.items < 2 ^ 64 }
         ensures value { result ≡ length self.items }
         ensures cost { steps.new ≤ steps.old + lane_steps (length self.words) + 2 }
+        ensures exact { steps.new ≡ steps.old + lane_steps (length self.words) + 1 }
     {
         let IntoOnes { owned } = self;
         owned.count_left(steps)

@@ -17,7 +17,7 @@ use Rattle.bitwords.specs.BesideFacts.{has_bit-beside_within}
 use Rattle.bitwords.specs.CountFacts.{indicator, count-zero, count-suc, count-same, count-append, count-le}
 use Rattle.bitwords.specs.RowFacts.{AreWords, has_bit-at, has_bit-inverted}
 use Rattle.bitwords.specs.Rows.{has_bit, count_below, bit_test, bits_test}
-use Rattle.bitwords.specs.Steps.{both_steps}
+use Rattle.bitwords.specs.Steps.{both_steps, beside_steps}
 use Rattle.bitwords.specs.WalkedWords.{beside, ones_from, held_items}
 use Rattle.bitwords.proofs.Counted.{ones-bits, row-ones}
 use Rattle.bitwords.proofs.OnesFrom.{has_bit-first, has_bit-later, has_bit-last, has_bit-before}
@@ -217,5 +217,12 @@ module _ {f : ℕ → ℕ → ℕ} {t : Bool → Bool → Bool} {keep also : Boo
 pub beside-steps : (keep also : Bool) (n common : ℕ) (others : List ℕ) → common ≡ min n (length others)
     → both_steps keep also n (length (take common others)) ≤ lane_steps n + 1
 beside-steps keep also n common others is =
+    let long : length (take common others) ≡ common = length-take-le common others (omega (arith, is)) in
+    grind (arith, long, is)
+
+-- exactly those over the first words, and over the rest where it counts
+pub beside-exact : (keep also : Bool) (n common : ℕ) (others : List ℕ) → common ≡ min n (length others)
+    → both_steps keep also n (length (take common others)) ≡ beside_steps keep n (length others)
+beside-exact keep also n common others is =
     let long : length (take common others) ≡ common = length-take-le common others (omega (arith, is)) in
     grind (arith, long, is)

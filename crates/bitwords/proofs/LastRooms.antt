@@ -1,9 +1,10 @@
 -- The last place with room, searched run by run.
 use Rattle.std.proofs.Common.{◌≡◌, ℕ, inl, inr, ◌+◌, ◌-◌, ◌<◌, ◌≤◌, ◌&&◌, not}
-use Rattle.std.proofs.Common.{true, false, Some, None, List, sym, ap, ◌∙◌, arith}
+use Rattle.std.proofs.Common.{◌/◌, true, false, Some, None, List, sym, ap, ◌∙◌, arith}
 use Rattle.std.specs.List.{last_or}
 use Rattle.std.proofs.lemmas.Bool.{cases_lt}
 use Rattle.std.proofs.lemmas.Bool.Decides.{nat_tests}
+use Rattle.bitlanes.specs.Words.{lane_steps}
 use Rattle.bitwords.specs.AscendingFacts.{ascending-none, last-ascending}
 use Rattle.bitwords.specs.CountFacts.{count-suc, count-mono}
 use Rattle.bitwords.specs.Gaps.{has_room_in, last_room}
@@ -11,6 +12,7 @@ use Rattle.bitwords.specs.GapsFacts.{pass-fails}
 use Rattle.bitwords.specs.Neighbours.{NonePasses, IsPrevious}
 use Rattle.bitwords.specs.Rows.{has_bit, bit_test, count_below}
 use Rattle.bitwords.specs.Runs.{begins}
+use Rattle.bitwords.specs.Steps.{range_words}
 use Rattle.bitwords.proofs.RunStarts.{pass-holds}
 
 module _ (ws : List ℕ) (end count : ℕ) where
@@ -107,3 +109,8 @@ module _ (ws : List ℕ) where
 
       run : begins (has_bit ws) (z + 1) ≡ true
       run = let clear = last.passes in grind (arith, nat_tests, set)
+
+-- a search from `stop` down to `low` took one step for each lane from p on at least
+pub lanes_covered : (low p stop end : ℕ) → low ≤ p → p ≤ stop → stop ≤ end → 0 < stop
+    → lane_steps (range_words p end) ≤ lane_steps (range_words stop end) + 1 + lane_steps ((stop - 1) / 64 - low / 64)
+lanes_covered low p stop end from to within some = grind (arith, nat_tests)

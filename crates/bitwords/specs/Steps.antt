@@ -1,5 +1,5 @@
 -- The steps of a call. A step is one lane of four words, or one word.
-use Rattle.std.specs.Prelude.{ℕ, ◌+◌, ◌-◌, ◌*◌, ◌/◌, ◌%◌, min, Bool, nat_lt, if◌then◌else◌}
+use Rattle.std.specs.Prelude.{◌≡◌, ℕ, ◌+◌, ◌-◌, ◌*◌, ◌/◌, ◌%◌, min, List, Bool, false, nat_lt, if◌then◌else◌}
 use Rattle.std.specs.Int.{div_ceil}
 use Rattle.bitlanes.specs.Shifts.{up_steps}
 use Rattle.bitlanes.specs.Words.{lane_steps}
@@ -28,6 +28,16 @@ join_steps keep n m = lane_steps (min n m) + (if keep then 0 else lane_steps (n 
 abbrev pub both_steps : Bool → Bool → ℕ → ℕ → ℕ
 both_steps keep take n m =
     lane_steps (min n m) + (if keep then lane_steps (n - m) else 0) + (if take then lane_steps (m - n) else 0)
+
+-- to count n words, each joined with the word at its place of m others: over those that both have, and over the rest
+-- of the first where it counts
+abbrev pub beside_steps : Bool → ℕ → ℕ → ℕ
+beside_steps keep n m = both_steps keep false n (min n m)
+
+-- a count took the steps of one that holds these words between its ends, and one more for the ends
+abbrev pub CountsLeft : {A : Type 0} → (A → List ℕ) → (A → ℕ) → List ℕ → (old new : ℕ) → Type 0
+CountsLeft {A} words_of steps_of words old new =
+    (middle : A) × (words_of middle ≡ words) × (new ≡ old + steps_of middle + 1)
 
 -- to join n words with m others that are moved up: the first word, which may have
 -- fewer than 64 of them, and those behind it

@@ -13,6 +13,7 @@ ghost use Rattle.std.specs.Slice.Iter.{iter_rest};
 ghost use Rattle.std.specs.Vec.Iter.{into_iter_items};
 ghost use Rattle.bitlanes.specs.Words.{lane_steps};
 ghost use Rattle.bitwords.specs.Rows.{has_bit, count_below};
+ghost use Rattle.bitwords.specs.Steps.{beside_steps, CountsLeft};
 ghost use Rattle.bitwords.specs.Walk.{GivesFirst, GivesLast, between_ends};
 ghost use Rattle.bitwords.specs.Walk.{over_row, within_row, range_row};
 ghost use Rattle.bitwords.specs.WalkedWords.{beside, held_items, held_walk, IsSpaced};
@@ -52,6 +53,9 @@ pub trait Middle {
     fn left(&self) -> usize
         ensures { result ≡ length (words self.now) };
 
+    /// How many steps a count takes.
+    ghost count_steps: { Self → ℕ };
+
     /// How many positions the words left have. Precondition: they are below 2 ^ 58.
     ///
     /// It goes over words, and over no positions: it takes at most one step for each lane of four
@@ -59,7 +63,8 @@ pub trait Middle {
     fn count_positions(self, steps: &mut Steps) -> usize
         requires { 64 * length (words self) < 2 ^ 64 }
         ensures count { result ≡ count_below (has_bit (words self)) (64 * length (words self)) }
-        ensures cost { steps.new ≤ steps.old + lane_steps (length (words self)) + 1 };
+        ensures cost { steps.new ≤ steps.old + lane_steps (length (words self)) + 1 }
+        ensures exact { steps.new ≡ steps.old + count_steps self };
 }
 
 /// Words that can be looked at before they are taken.
@@ -89,6 +94,8 @@ pub struct Plain<'a> {
 
 impl<'a> Middle for Plain<'a> {
     ghost words = { λ middle. iter_rest middle.words };
+
+    ghost count_steps = { λ middle. lane_steps (length (iter_rest middle.words)) };
 
     #[inline]
     fn take_first(&mut self) -> Option<Block> {
@@ -135,6 +142,8 @@ pub struct Inverted<'a> {
 
 impl<'a> Middle for Inverted<'a> {
     ghost words = { λ middle. map (bit_not w64) (iter_rest middle.plain.words) };
+
+    ghost count_steps = { λ middle. lane_steps (length (iter_rest middle.plain.words)) };
 
     #[inline]
     fn take_first(&mut self) -> Option<Block> {
@@ -204,6 +213,9 @@ impl<'a, O: WordOp> Beside<'a, O> {
 impl<'a, O: WordOp> Middle for Beside<'a, O> {
     ghost words = { λ middle. beside O.joined (iter_rest middle.plain.words) middle.other.now };
 
+    ghost count_steps = { λ middle. beside_steps O.KEEP
+        (length (iter_rest middle.plain.words)) (length middle.other.now) };
+
     #[inline]
     fn take_first(&mut self) -> Option<Block> {
         let word = self.plain.take_first()?;
@@ -235,6 +247,8 @@ impl<'a, O: WordOp> Middle for Beside<'a, O> {
 /// Words that the cursor owns.
 impl Middle for vec::IntoIter<Block, Global> {
     ghost words = { into_iter_items };
+
+    ghost count_steps = { λ words. lane_steps (length (into_iter_items words)) };
 
     #[inline]
     fn take_first(&mut self) -> Option<Block> {
@@ -291,6 +305,8 @@ fn count_beside<O: WordOp>(words: &[Block], other: &[Block], steps: &mut Steps) 
     ensures count { result
         ≡ count_below (has_bit (beside O.joined words.now other.now)) (64 * length words.now) }
     ensures cost { steps.new ≤ steps.old + lane_steps (length words.now) + 1 }
+    ensures exact { steps.new
+        ≡ steps.old + beside_steps O.KEEP (length words.now) (length other.now) }
 {
     let common = words.len().min(other.len());
     joins::count::<O>(words, &other[..common], steps)
@@ -484,7 +500,8 @@ impl<M: Middle + Drop> Cursor<M> {
     /// How many positions are left. Precondition: this number fits `usize`.
     ///
     /// It goes over the words and over no positions: with `m` words between the two that the cursor
-    /// holds it takes at most `m / 4` steps, rounded up, and two more.
+    /// holds it takes at most `m / 4` steps, rounded up, and two more: those of a count of these
+    /// words ([`Middle::count_positions`]), and exactly one more.
     ///
     /// ```
     /// let mut cursor = Cursor::over(Plain { words: [9, 7, 1].iter() });
@@ -496,6 +513,7 @@ impl<M: Middle + Drop> Cursor<M> {
         requires { length self.items < 2 ^ 64 }
         ensures value { result ≡ length self.items }
         ensures cost { steps.new ≤ steps.old + lane_steps (length self.words) + 2 }
+        ensures exact { CountsLeft M.words M.count_steps self.words steps.old steps.new }
     {
         let held = self.into_held();
         let ends = [held.front, held.back];

@@ -108,7 +108,9 @@ pub fn first_aligned(
 ///
 /// It goes over the runs of clear positions, from the last one below `end` down to the one that is
 /// long enough. So it takes at most two steps for each run of positions that are set and begins
-/// below `end`, two more, and one for each word that has a position below `end`.
+/// below `end`, two more, and one for each word that has a position below `end`. They are at least
+/// one for each lane of four words from that of the result up to `end`; where there is no such run,
+/// from that of the place `count` on.
 ///
 /// ```
 /// let mut steps = Steps::new();
@@ -122,6 +124,9 @@ pub fn last(words: &[Block], end: usize, count: usize, steps: &mut Steps) -> Opt
     requires within { end ≤ 64 * length words.now }
     ensures gap { result ≡ last_room (has_bit words.now) end count }
     ensures cost { steps.new ≤ steps.old + last_steps (has_bit words.now) end }
+    ensures found { IfSome result
+        (λ p. steps.old + lane_steps (range_words p end) ≤ steps.new) }
+    ensures missed { IfNone result (steps.old + lane_steps (range_words count end) ≤ steps.new) }
 {
     let mut stop = end;
     loop {

@@ -260,7 +260,7 @@ impl<'a> BitsMut<'a> {
     }
 
     /// [`Bits::over`], to be changed: `None` where the words are not those of a set of `length` positions
-    /// as they stand.
+    /// as they stand ([`Bits::fits`]). The words then stay as they are.
     ///
     /// Proved: the result, for all words and all numbers
     /// ([contract](crate::contracts#fixedbitsetbitsmutover)).

@@ -73,7 +73,8 @@ impl<'a> Bits<'a> {
     ///
     /// It goes over the runs of clear positions below `below`, the last one first. So it takes at
     /// most two steps for each run of positions that are set and begins there, two more, and one
-    /// for each word that has such a position.
+    /// for each word that has such a position. They are at least one for each lane from that of
+    /// the gap up to `below`, or to the length; where there is none, from that of `count` on.
     ///
     /// Proved: the result, for all sets and all numbers
     /// ([contract](crate::contracts#fixedbitsetbitslast_gap)).
@@ -213,9 +214,29 @@ impl<'a> Bits<'a> {
         self.view.previous_zero(below, &mut Steps::new())
     }
 
-    /// The words as a set of `length` positions, or `None` where they are not those of one as they stand:
-    /// as many whole lanes as the length needs, and no bit past it. So words from elsewhere can be refused,
-    /// where `settle` would clear what does not fit.
+    /// Whether the words are those of a set of `length` positions as they stand: as many whole lanes as the
+    /// length needs, and no bit past it. It changes nothing.
+    ///
+    /// It looks at the word of the length and at those after it, which are at most one lane.
+    ///
+    /// Proved: the result, for all words and all numbers
+    /// ([contract](crate::contracts#fixedbitsetbitsfits)).
+    ///
+    /// ```
+    /// # use fixedbitset::Bits;
+    /// assert!(Bits::fits(&[8, 63, 0, 0], 70));
+    /// assert!(!Bits::fits(&[8, 64, 0, 0], 70));
+    /// assert!(!Bits::fits(&[8, 63], 70));
+    /// ```
+    #[inline]
+    #[must_use]
+    pub fn fits(words: &[Block], length: usize) -> bool {
+        views::Bits::fits(words, length)
+    }
+
+    /// The words as a set of `length` positions, or `None` where they are not those of one as they stand
+    /// ([`fits`](Self::fits)). So words from elsewhere can be refused, where `settle` would clear what does
+    /// not fit.
     ///
     /// It looks at the word of the length and at those after it, which are at most one lane.
     ///

@@ -132,6 +132,31 @@ macro_rules! tables {
                 BitsMut { view }
             }
 
+            /// The rows before a row, the row as a set, and the rows after it, each part to be changed by itself. The third
+            /// counts its rows from 0 too.
+            ///
+            /// **Panics** where the table has no such row.
+            ///
+            /// Proved: the three parts, for each row of the table
+            /// ([contract](crate::contracts#bitrowsrowsmutsplit_row_mut)). That the table has what is left of them is not.
+            ///
+            /// ```
+            /// # use fixedbitset::BitRows;
+            /// let mut table = BitRows::new(4, 70);
+            /// table.set(3, 69, true);
+            /// let (_, mut row, after) = table.split_row_mut(1);
+            /// row.union_with(after.row_bits(1));
+            /// assert_eq!(format!("{table:?}"), "[{}, {69}, {}, {69}]");
+            /// ```
+            #[inline]
+            #[must_use]
+            #[track_caller]
+            pub fn split_row_mut(&mut self, row: usize) -> (RowsMut<'_>, BitsMut<'_>, RowsMut<'_>) {
+                self.assert_row(row);
+                let (low, view, high) = self.lent().split_row_mut(row);
+                (RowsMut { table: low }, BitsMut { view }, RowsMut { table: high })
+            }
+
             /// The rows before row `at`, and those from it on, each part to be changed by itself. The second counts its rows
             /// from 0 too.
             ///

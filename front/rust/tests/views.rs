@@ -81,13 +81,30 @@ fn words_of_no_set_are_refused() {
     let mut numbers = Numbers(1);
     for flags in numbers.sets() {
         let (length, words) = (flags.len(), words_of(&flags));
-        assert!(Bits::over(&words, length).is_some());
+        assert!(Bits::fits(&words, length) && Bits::over(&words, length).is_some());
         assert!(BitsMut::over(&mut words.clone(), length).is_some());
         for position in length..BITS * words.len() {
             let mut unclean = words.clone();
             unclean[position / BITS] |= 1 << (position % BITS);
-            assert!(Bits::over(&unclean, length).is_none());
+            assert!(!Bits::fits(&unclean, length) && Bits::over(&unclean, length).is_none());
+            let before = unclean.clone();
             assert!(BitsMut::over(&mut unclean, length).is_none());
+            assert_eq!(unclean, before);
+        }
+    }
+}
+
+/// No clause says what `BitsMut::over` leaves of words that it refuses.
+#[test]
+fn refused_words_stay_as_they_are() {
+    let mut numbers = Numbers(7);
+    for length in LENGTHS {
+        for count in 0..storage_words(length) + 9 {
+            let mut words = words_of(&numbers.flags(BITS * count, 4));
+            words.truncate(count);
+            let before = words.clone();
+            let fits = BitsMut::over(&mut words, length).is_some();
+            assert_eq!((fits, &words), (Bits::fits(&before, length), &before));
         }
     }
 }

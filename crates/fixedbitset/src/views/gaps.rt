@@ -81,7 +81,8 @@ impl Bits<'_> {
     ///
     /// It goes over the runs of clear positions below `below`, the last one first. So it takes at
     /// most two steps for each run of positions that are set and begins there, two more, and one
-    /// for each word that has such a position.
+    /// for each word that has such a position. They are at least one for each lane from that of
+    /// the gap up to `below`, or to the length; where there is none, from that of `count` on.
     ///
     /// ```
     /// let mut words = [9, 2, 0, 0];
@@ -95,6 +96,10 @@ impl Bits<'_> {
         ensures gap { result ≡ stretches.last_gap (value self.entry) count below }
         ensures cost { steps.new ≤ steps.old
             + last_steps (contains (value self.entry)) (min below self.entry.length) }
+        ensures found { IfSome result (λ p. steps.old
+            + lane_steps (range_words p (min below self.entry.length)) ≤ steps.new) }
+        ensures missed { IfNone result (steps.old
+            + lane_steps (range_words count (min below self.entry.length)) ≤ steps.new) }
     {
         gaps::last(self.words, below.min(self.length), count, steps)
     }

@@ -20,9 +20,26 @@ use bitwords::positions;
 const SHORT: usize = 4 * lanes::LANE;
 
 impl<'a> Bits<'a> {
+    /// Whether the words are those of a set of `length` positions as they stand: as many whole lanes
+    /// as the length needs, and no bit past it. It changes nothing.
+    ///
+    /// It looks at the word of the length and at those after it, which are at most one lane.
+    ///
+    /// ```
+    /// assert!(rt; Bits::fits(&[8, 63, 0, 0], 70));
+    /// assert!(rt; !Bits::fits(&[8, 64, 0, 0], 70));
+    /// assert!(rt; !Bits::fits(&[8, 63], 70));
+    /// ```
+    #[inline]
+    pub fn fits(words: &[Block], length: usize) -> bool
+        ensures { IsTrue result ↔ IsClean length words.now }
+    {
+        words.len() == storage_words(length) && positions::none_from(words, length)
+    }
+
     /// The words as a set of `length` positions, or `None` where they are not those of one as they
-    /// stand: as many whole lanes as the length needs, and no bit past it. So words from elsewhere
-    /// can be refused, where `settle` would clear what does not fit.
+    /// stand ([`fits`](Self::fits)). So words from elsewhere can be refused, where `settle` would
+    /// clear what does not fit.
     ///
     /// It looks at the word of the length and at those after it, which are at most one lane.
     ///
@@ -36,7 +53,7 @@ impl<'a> Bits<'a> {
         ensures some { IfSome result (λ set. value set ≡ of_words length words.now) }
         ensures clean { IsSome result ↔ IsClean length words.now }
     {
-        if words.len() == storage_words(length) && positions::none_from(words, length) {
+        if Bits::fits(words, length) {
             Some(Bits { words, length })
         } else {
             None
@@ -206,7 +223,7 @@ impl<'a> BitsMut<'a> {
     }
 
     /// [`Bits::over`], to be changed: `None` where the words are not those of a set of `length`
-    /// positions as they stand.
+    /// positions as they stand ([`Bits::fits`]). The words then stay as they are.
     ///
     /// ```
     /// let mut words = [8, 64, 0, 0];
@@ -219,7 +236,9 @@ impl<'a> BitsMut<'a> {
         ensures clean { IsSome result ↔ IsClean length words.old }
         ensures same { IfSome result (λ set. set.words.ghost_name ≡ words.entry.ghost_name) }
     {
-        Bits::over(words, length)?;
+        if !Bits::fits(words, length) {
+            return None;
+        }
         Some(BitsMut { words, length })
     }
 

@@ -65,7 +65,7 @@ pub fn bits_settle(words: &mut [Block], length: usize, kept: usize) -> bool {
 /// `bits_words(length)`, and no bit at or past the length is set. With this call a program can
 /// reject words from elsewhere, where `bits_settle` would drop the bits past the length.
 pub fn bits_is_clean(words: &[Block], length: usize) -> bool {
-    Bits::over(words, length).is_some()
+    Bits::fits(words, length)
 }
 
 /// Returns whether the position is set; `false` if the position is out of range.

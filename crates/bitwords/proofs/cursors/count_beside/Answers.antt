@@ -2,7 +2,7 @@ use Rattle.std.proofs.Common.{◌*◌, ◌∙◌, length, rules, arith}
 use Rattle.bitwords.specs.CountFacts.{count-le}
 use Rattle.bitwords.specs.Rows.{has_bit}
 use Rattle.bitwords.specs.WalkedWords.{beside}
-use Rattle.bitwords.proofs.CountedLeft.{count-beside, beside-steps}
+use Rattle.bitwords.proofs.CountedLeft.{count-beside, beside-steps, beside-exact}
 use Rattle.bitwords.proofs.cursors.count_beside.Goals as goal
 
 pub count-requires : goal.count-requires
@@ -31,5 +31,14 @@ returns-clause-cost g c =
       arith,
       c.count.ensures.cost,
       beside-steps g.O.WordOp.KEEP g.O.WordOp.TAKE (length c.args.words.now) c.min-common.result c.args.other.now
+          c.min-common.ensures,
+    )
+
+pub returns-clause-exact : goal.returns-clause-exact
+returns-clause-exact g c =
+    omega (
+      arith,
+      c.count.ensures.cost,
+      beside-exact g.O.WordOp.KEEP g.O.WordOp.TAKE (length c.args.words.now) c.min-common.result c.args.other.now
           c.min-common.ensures,
     )

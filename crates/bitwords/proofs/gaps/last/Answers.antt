@@ -1,9 +1,11 @@
 use Rattle.std.proofs.Common.{rules, ◌≡◌, ◌+◌, ◌-◌, ◌≤◌, inl, inr, Some, None, ◌∙◌, arith}
 use Rattle.std.proofs.lemmas.Bool.{cases_lt}
+use Rattle.std.proofs.lemmas.Bool.Decides.{nat_tests}
 use Rattle.bitwords.specs.CountFacts.{count-mono}
 use Rattle.bitwords.specs.Rows.{has_bit}
 use Rattle.bitwords.specs.Runs.{begins}
 use Rattle.bitwords.proofs.LastRooms.{none_behind_end, none_behind_taken, none_behind_run, room_before, no_last_room}
+use Rattle.bitwords.proofs.LastRooms.{lanes_covered}
 use Rattle.bitwords.proofs.LastRooms.{is_taken, clear_behind, clear_below, taken_behind, taken_below, one_begins}
 use Rattle.bitwords.proofs.gaps.last.Goals as goal
 
@@ -12,6 +14,7 @@ loop-taken-init c = record {
   within = omega arith;
   none = none_behind_end c.args.words.now c.args.end c.args.count;
   spent = omega arith;
+  covered = grind (arith, nat_tests);
 }
 
 pub returns-in_default-clause-gap : goal.returns-in_default-clause-gap
@@ -78,4 +81,29 @@ loop-taken-preserved c =
             one_begins ws p z (is_taken ws stop p found) clear,
             count-mono (begins (has_bit ws)) (p + 1) stop (omega (arith, found.below)),
           );
+      covered =
+          omega (
+            arith,
+            loop.covered,
+            c.in-Some.ensures.cost,
+            c.in_ok-stop.ensures.cost,
+            lanes_covered p p stop c.args.end (omega arith) (omega (arith, found.below)) loop.within
+                (omega (arith, found.below)),
+            lanes_covered z (z + 1) p c.args.end (omega arith) (omega (arith, clear.below))
+                (omega (arith, loop.within, found.below)) (omega (arith, clear.below)),
+          );
     }
+
+-- the last search went down to the end of the set position before the gap
+pub returns-then-count-stop-clause-found : goal.returns-then-count-stop-clause-found
+returns-then-count-stop-clause-found c =
+    let stop = c.loop-taken.stop in
+    let p = c.in-Some.taken in
+    let room = c.if-count-stop.true in
+    omega (
+      arith,
+      c.loop-taken.invariant.covered,
+      c.in-Some.ensures.cost,
+      lanes_covered p (stop - c.args.count) stop c.args.end (omega (arith, room)) (omega arith)
+          c.loop-taken.invariant.within (omega (arith, room)),
+    )

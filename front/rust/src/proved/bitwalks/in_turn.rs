@@ -167,8 +167,8 @@ impl<A: Part, B: Part> InTurn<A, B> {
 }
 
 impl<A: Counted, B: Counted> InTurn<A, B> {
-    /// How many items both iterators have left. Precondition: this number fits `usize`. It takes at
-    /// most as many steps as a count of the one and of the other.
+    /// How many items both iterators have left. Precondition: this number fits `usize`. It takes
+    /// exactly the steps of a count of the one and of the other.
     ///
     /// ```text
     /// let first = Cursor::over(Plain { words: [9, 1].iter() });

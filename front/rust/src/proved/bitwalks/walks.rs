@@ -131,8 +131,8 @@ impl IntoOnes {
 
     /// How many positions are left. Precondition: this number fits `usize`.
     ///
-    /// It goes over the words and over no positions, in as many steps as
-    /// [`Cursor::count_left`](bitwords::cursors::Cursor::count_left).
+    /// It goes over the words and over no positions: with `m` words between the two that the
+    /// iterator holds it takes exactly `m / 4` steps, rounded up, and one more.
     ///
     /// ```text
     /// let words = [8, 0, 1].to_vec(alloc)?;

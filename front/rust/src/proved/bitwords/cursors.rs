@@ -394,7 +394,8 @@ impl<M: Middle> Cursor<M> {
     /// How many positions are left. Precondition: this number fits `usize`.
     ///
     /// It goes over the words and over no positions: with `m` words between the two that the cursor
-    /// holds it takes at most `m / 4` steps, rounded up, and two more.
+    /// holds it takes at most `m / 4` steps, rounded up, and two more: those of a count of these
+    /// words ([`Middle::count_positions`]), and exactly one more.
     ///
     /// ```text
     /// let mut cursor = Cursor::over(Plain { words: [9, 7, 1].iter() });

@@ -82,7 +82,9 @@ pub fn first_aligned(
 ///
 /// It goes over the runs of clear positions, from the last one below `end` down to the one that is
 /// long enough. So it takes at most two steps for each run of positions that are set and begins
-/// below `end`, two more, and one for each word that has a position below `end`.
+/// below `end`, two more, and one for each word that has a position below `end`. They are at least
+/// one for each lane of four words from that of the result up to `end`; where there is no such run,
+/// from that of the place `count` on.
 ///
 /// ```text
 /// let mut steps = Steps::new();

@@ -33,3 +33,10 @@ returns-clause-cost g c =
       c.count_one.ensures.cost,
       ap length c.into_held-held.ensures.words,
     )
+
+pub returns-clause-exact : goal.returns-clause-exact
+returns-clause-exact g c = (
+  c.into_held-held.result.middle,
+  c.into_held-held.ensures.words,
+  omega (arith, c.count_positions.ensures.exact, c.count_one.ensures.cost),
+)

@@ -37,3 +37,6 @@ returns-clause-count c =
 
 pub returns-clause-cost : goal.returns-clause-cost
 returns-clause-cost c = omega (arith, c.left.ensures, c.tick_lanes.ensures)
+
+pub returns-clause-exact : goal.returns-clause-exact
+returns-clause-exact c = omega (arith, c.left.ensures, c.tick_lanes.ensures)

@@ -44,8 +44,38 @@ impl<'a> RowsMut<'a> {
         }
     }
 
-    /// A row, to be changed: a set of `columns` positions over the words of the row. The row has to
-    /// be one of the table's.
+    /// A row, and the rows before and after it, each part to be changed by itself. The row is a set
+    /// of `columns` positions over its words, and each of the two parts counts its rows from 0. The
+    /// row has to be one of the table's.
+    ///
+    /// ```text
+    /// let mut words = [7; 12];
+    /// let table = RowsMut::blank(&mut words, 3, 70);
+    /// let (mut low, mut row, mut high) = table.split_row_mut(1);
+    /// low.set(0, 3, true);
+    /// row.insert(64);
+    /// high.set(0, 1, true);
+    /// assert_eq!(words, [8, 0, 0, 0, 0, 1, 0, 0, 2, 0, 0, 0]);
+    /// ```
+    #[inline(always)]
+    pub fn split_row_mut(self, row: usize) -> (RowsMut<'a>, BitsMut<'a>, RowsMut<'a>) {
+        let (low, rest) = self.split_rows_mut(row);
+        let (one, high) = rest.split_rows_mut(1);
+        let RowsMut {
+            words,
+            rows: _,
+            columns,
+        } = one;
+        let row = BitsMut {
+            words,
+            length: columns,
+        };
+        (low, row, high)
+    }
+
+    /// A row, to be changed: a set of `columns` positions over the words of the row, the middle of
+    /// [`split_row_mut`](Self::split_row_mut). The other rows stay. The row has to be one of the
+    /// table's.
     ///
     /// ```text
     /// let mut words = [7; 8];
@@ -55,17 +85,8 @@ impl<'a> RowsMut<'a> {
     /// ```
     #[inline(always)]
     pub fn row_mut(self, row: usize) -> BitsMut<'a> {
-        let RowsMut {
-            words,
-            rows: _,
-            columns,
-        } = self;
-        let wide = storage_words(columns);
-        let start = row * wide;
-        BitsMut {
-            words: &mut words[start..start + wide],
-            length: columns,
-        }
+        let (_, row, _) = self.split_row_mut(row);
+        row
     }
 
     /// The rows before row `at`, and those from it on, each part to be changed by itself. The

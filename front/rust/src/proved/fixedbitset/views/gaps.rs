@@ -56,7 +56,8 @@ impl Bits<'_> {
     ///
     /// It goes over the runs of clear positions below `below`, the last one first. So it takes at
     /// most two steps for each run of positions that are set and begins there, two more, and one
-    /// for each word that has such a position.
+    /// for each word that has such a position. They are at least one for each lane from that of
+    /// the gap up to `below`, or to the length; where there is none, from that of `count` on.
     ///
     /// ```text
     /// let mut words = [9, 2, 0, 0];

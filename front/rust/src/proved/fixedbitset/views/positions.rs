@@ -11,9 +11,24 @@ use crate::proved::bitwords::positions;
 const SHORT: usize = 4 * lanes::LANE;
 
 impl<'a> Bits<'a> {
+    /// Whether the words are those of a set of `length` positions as they stand: as many whole lanes
+    /// as the length needs, and no bit past it. It changes nothing.
+    ///
+    /// It looks at the word of the length and at those after it, which are at most one lane.
+    ///
+    /// ```text
+    /// assert!(Bits::fits(&[8, 63, 0, 0], 70));
+    /// assert!(!Bits::fits(&[8, 64, 0, 0], 70));
+    /// assert!(!Bits::fits(&[8, 63], 70));
+    /// ```
+    #[inline]
+    pub fn fits(words: &[Block], length: usize) -> bool {
+        words.len() == storage_words(length) && positions::none_from(words, length)
+    }
+
     /// The words as a set of `length` positions, or `None` where they are not those of one as they
-    /// stand: as many whole lanes as the length needs, and no bit past it. So words from elsewhere
-    /// can be refused, where `settle` would clear what does not fit.
+    /// stand ([`fits`](Self::fits)). So words from elsewhere can be refused, where `settle` would
+    /// clear what does not fit.
     ///
     /// It looks at the word of the length and at those after it, which are at most one lane.
     ///
@@ -24,7 +39,7 @@ impl<'a> Bits<'a> {
     /// ```
     #[inline]
     pub fn over(words: &'a [Block], length: usize) -> Option<Self> {
-        if words.len() == storage_words(length) && positions::none_from(words, length) {
+        if Bits::fits(words, length) {
             Some(Bits { words, length })
         } else {
             None
@@ -156,7 +171,7 @@ impl<'a> BitsMut<'a> {
     }
 
     /// [`Bits::over`], to be changed: `None` where the words are not those of a set of `length`
-    /// positions as they stand.
+    /// positions as they stand ([`Bits::fits`]). The words then stay as they are.
     ///
     /// ```text
     /// let mut words = [8, 64, 0, 0];
@@ -165,7 +180,9 @@ impl<'a> BitsMut<'a> {
     /// ```
     #[inline]
     pub fn over(words: &'a mut [Block], length: usize) -> Option<Self> {
-        Bits::over(words, length)?;
+        if !Bits::fits(words, length) {
+            return None;
+        }
         Some(BitsMut { words, length })
     }
 
