@@ -163,7 +163,7 @@ class Plan:
         calls by the clock, and want a processor of their own."""
         library = self.sources("bits_c", parts=("src", "specs", "proofs"))
         archives = Stage("the archives for C", ("front/lib/test",), ("front/lib", "front/archive", "front/checks.sh", "front/c", *library), ("cc",))
-        server = ("pg_config", "postgres", "psql", "dpkg-deb", *MAKERS)
+        server = ("pg_config", "psql", "dpkg-deb", *MAKERS)
         inputs = ("front/postgres", "front/lib", "front/c", "front/rust/src", "front/rust/LICENSE-MIT")
         postgres = Stage("the type for PostgreSQL", ("front/postgres/test",), inputs, server, ("README.md",))
         glue = ("front/wasm", "front/wrong", "front/wrong_lines", "front/checks.sh", "tools/kept.py")
