@@ -297,6 +297,19 @@ CALL(length_from_outside, bits_own own = BITS_OWN; bits_own_insert(&own, 5); own
 CALL(own_of_no_room, bits_own own = BITS_OWN; own.set = good(70); bits_own_insert(&own, 1))
 CALL(own_union_with_itself, bits_own own = BITS_OWN; bits_own_insert(&own, 5); bits_own_union(&own, &own.set))
 CALL(own_copy_of_itself, bits_own own = BITS_OWN; bits_own_insert(&own, 5); bits_own_copy(&own, &own.set))
+
+/* A set of length 9 with room for 600, and words of that room behind the set's own. */
+static bits_own roomy(void) {
+    bits_own own = BITS_OWN;
+    if (!bits_own_reserve(&own, 600) || !bits_own_resize(&own, 9))
+        abort();
+    memset(own.set.words, 0, 8 * own.room);
+    return own;
+}
+
+CALL(own_union_of_its_room, bits_own own = roomy(); bits set = BITS_OF(own.set.words + 4, 100); bits_own_union(&own, &set))
+CALL(own_copy_of_its_room, bits_own own = roomy(); bits set = BITS_OF(own.set.words + 8, 200); bits_own_copy(&own, &set))
+CALL(text_in_its_room, bits_own own = roomy(); bits_own_from_text(&own, (char *)(own.set.words + 11), 8, 9, &fault))
 CALL(own_of_null, bits_own_resize(NULL, 9))
 CALL(own_of_more_words, bits_own own = BITS_OWN; bits_own_insert(&own, 5); own.set.length = 300; bits_own_grow(&own, 400))
 CALL(own_with_a_tail, bits_own own = BITS_OWN; bits_own_insert(&own, 5); own.set.words[3] = 1; bits_own_reserve(&own, 400))
@@ -488,6 +501,9 @@ static const struct {
     {own_of_no_room, "bits_own_insert: `own` has 4 words, and room for 0", 1},
     {own_union_with_itself, "bits_own_union: `set` overlaps what the call writes", 1},
     {own_copy_of_itself, "bits_own_copy: `set` overlaps what the call writes", 1},
+    {own_union_of_its_room, "bits_own_union: `set` overlaps what the call writes", 1},
+    {own_copy_of_its_room, "bits_own_copy: `set` overlaps what the call writes", 1},
+    {text_in_its_room, "bits_own_from_text: `text` overlaps what the call writes", 1},
     {own_of_null, "bits_own_resize: `own` is NULL", 1},
     {own_of_more_words, "bits_own_grow: `own` has 4 words, and BITS_WORDS(300) is 8", 1},
     {own_with_a_tail, "bits_own_reserve: `own` has a bit past its length of 6", 1},
