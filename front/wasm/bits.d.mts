@@ -35,6 +35,8 @@ export interface FixedBitSet extends Iterable<number>, Disposable {
   to_bytes(): Uint8Array;
   /** What JSON.stringify writes, as serde_json does for the crate. `from_bytes(length, data)` makes the set again. */
   toJSON(): { length: number; data: number[] };
+  /** The text that PostgreSQL's type `bitset` reads, with runs and the length: `{3,7,10-12}/64`. Template literals write it. */
+  toString(): string;
 
   /** Whether the position is in the set: false past the length. */
   contains(position: number): boolean;
