@@ -1,4 +1,12 @@
-/// <reference lib="esnext.disposable" />
+/** What the library esnext.disposable of TypeScript 5.2 declares, for earlier versions and for other libraries. */
+declare global {
+  interface SymbolConstructor {
+    readonly dispose: unique symbol;
+  }
+  interface Disposable {
+    [Symbol.dispose](): void;
+  }
+}
 
 /**
  * A set of positions below a length. A position or range that is not below it is a RangeError, where nothing else is said.
