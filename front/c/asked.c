@@ -7,12 +7,13 @@
 #include <stdlib.h>
 #include <string.h>
 
-/* Memory is refused where this is set, and where it is more than any test needs. */
+/* Memory is refused where this is set, and where it is more than any test needs. All new words are these where they are set. */
 static bool refuses;
+static void *given;
 #define MOST 100000
-#define BITS_CALLOC(count, size) (refuses || (count) > MOST ? NULL : calloc((count), (size)))
+#define BITS_CALLOC(count, size) (refuses || (count) > MOST ? NULL : given ? given : calloc((count), (size)))
 #define BITS_REALLOC(pointer, size) (refuses || (size) > MOST ? NULL : realloc((pointer), (size)))
-#define BITS_FREE(pointer) free(pointer)
+#define BITS_FREE(pointer) ((void)(given || (free(pointer), false)))
 #ifndef WARNED
 #define BITS_NODISCARD
 #endif
@@ -297,10 +298,26 @@ CALL(length_from_outside, bits_own own = BITS_OWN; bits_own_insert(&own, 5); own
 CALL(own_of_no_room, bits_own own = BITS_OWN; own.set = good(70); bits_own_insert(&own, 1))
 CALL(own_union_with_itself, bits_own own = BITS_OWN; bits_own_insert(&own, 5); bits_own_union(&own, &own.set))
 CALL(own_copy_of_itself, bits_own own = BITS_OWN; bits_own_insert(&own, 5); bits_own_copy(&own, &own.set))
+
+/* A set of length 9 with room for 600, and words of that room behind the set's own. */
+static bits_own roomy(void) {
+    bits_own own = BITS_OWN;
+    if (!bits_own_reserve(&own, 600) || !bits_own_resize(&own, 9))
+        abort();
+    memset(own.set.words, 0, 8 * own.room);
+    return own;
+}
+
+CALL(own_union_of_its_room, bits_own own = roomy(); bits set = BITS_OF(own.set.words + 4, 100); bits_own_union(&own, &set))
+CALL(own_copy_of_its_room, bits_own own = roomy(); bits set = BITS_OF(own.set.words + 8, 200); bits_own_copy(&own, &set))
+CALL(text_in_its_room, bits_own own = roomy(); bits_own_from_text(&own, (char *)(own.set.words + 11), 8, 9, &fault))
 CALL(own_of_null, bits_own_resize(NULL, 9))
 CALL(own_of_more_words, bits_own own = BITS_OWN; bits_own_insert(&own, 5); own.set.length = 300; bits_own_grow(&own, 400))
 CALL(own_with_a_tail, bits_own own = BITS_OWN; bits_own_insert(&own, 5); own.set.words[3] = 1; bits_own_reserve(&own, 400))
 CALL(freed_of_more_words, bits_own own = BITS_OWN; bits_own_insert(&own, 5); own.set.count = 2; bits_own_free(&own))
+CALL(freed_of_few_words, bits set = bits_new(100); set.count = 2; bits_free(&set))
+CALL(freed_null, bits_free(NULL))
+CALL(freed_table_of_few_words, bits_rows table = bits_rows_new(3, 70); table.count = 4; bits_rows_free(&table))
 CALL(text_of_null, bits set = good(70); bits_to_text(&set, NULL, 5))
 CALL(text_over_the_set, bits set = good(70); bits_to_text(&set, (char *)others, 9))
 CALL(read_text_of_null, bits set = good(70); bits_from_text(&set, NULL, 5, &fault))
@@ -404,7 +421,36 @@ static void own_of_freed_room(void) {
 }
 
 CALL(freed_twice, bits set = bits_new(100), copy = set; bits_free(&set); bits_free(&copy))
+CALL(table_freed_twice, bits_rows table = bits_rows_new(3, 70), copy = table; bits_rows_free(&table); bits_rows_free(&copy))
 CALL(freed_array, bits set = good(200); bits_free(&set))
+
+/* ---- what is freed, and was not allocated: with BITS_CHECK_FREE */
+
+CALL(freed_array_of_the_stack, uint64_t four[4] = {0}; bits set = BITS_OF(four, 200); bits_free(&set))
+CALL(freed_view, bits set = bits_new(600); bits part = BITS_OF(set.words + 4, 100); bits_free(&part))
+CALL(freed_row, bits_rows table = bits_rows_new(3, 70); bits first = bits_rows_row(&table, 0); bits_free(&first))
+CALL(freed_own, bits_own own = BITS_OWN; bits_own_insert(&own, 5); bits_free(&own.set))
+CALL(freed_table_of_an_array, bits_rows table = BITS_ROWS_OF(words, 3, 70); bits_rows_free(&table))
+CALL(freed_set_as_a_table, bits set = bits_new(70); bits_rows table = BITS_ROWS_OF(set.words, 1, 70); bits_rows_free(&table))
+
+/* A copy that is freed when a new set has its words: that set is then freed twice. */
+CALL(freed_copy, given = words; bits set = bits_new(9), copy = set; bits_free(&set); bits next = bits_new(9); bits_free(&copy);
+     changed = next.length)
+CALL(freed_under_a_copy, given = words; bits set = bits_new(9), copy = set; bits_free(&set); bits next = bits_new(9);
+     bits_free(&copy); bits_free(&next))
+
+static void freed_once(void) {
+    bits set = bits_new(100), none = bits_new(0), cut = bits_new(600), refused = bits_new(SIZE_MAX);
+    bits_rows table = bits_rows_new(3, 70);
+    cut = BITS_OF(cut.words, 9);
+    for (int k = 0; k < 2; k++) {
+        bits_free(&set);
+        bits_free(&none);
+        bits_free(&cut);
+        bits_free(&refused);
+        bits_rows_free(&table);
+    }
+}
 
 /* ---- what no level tells: calls that do no harm, or answer of what the caller gave them */
 
@@ -428,8 +474,9 @@ static void set_that_grows_in_a_loop(void) {
     BITS_FOR_EACH(p, &set) bits_set(&set, p + 1 < 200 ? p + 1 : 0, true);
 }
 
-/* From where on a call is told: the levels of BITS_CHECK, where AddressSanitizer is on too, by that itself, and never. */
-enum { BY_ASAN = 3, OF_ASAN, NEVER };
+/* From where on a call is told: the levels of BITS_CHECK, where AddressSanitizer is on too, by that itself, where BITS_CHECK_FREE
+ * is on too, and never. */
+enum { BY_ASAN = 3, OF_ASAN, BY_FREE, NEVER };
 
 /* Each call, what its line has to say, and from where on. */
 static const struct {
@@ -488,6 +535,9 @@ static const struct {
     {own_of_no_room, "bits_own_insert: `own` has 4 words, and room for 0", 1},
     {own_union_with_itself, "bits_own_union: `set` overlaps what the call writes", 1},
     {own_copy_of_itself, "bits_own_copy: `set` overlaps what the call writes", 1},
+    {own_union_of_its_room, "bits_own_union: `set` overlaps what the call writes", 1},
+    {own_copy_of_its_room, "bits_own_copy: `set` overlaps what the call writes", 1},
+    {text_in_its_room, "bits_own_from_text: `text` overlaps what the call writes", 1},
     {own_of_null, "bits_own_resize: `own` is NULL", 1},
     {own_of_more_words, "bits_own_grow: `own` has 4 words, and BITS_WORDS(300) is 8", 1},
     {own_with_a_tail, "bits_own_reserve: `own` has a bit past its length of 6", 1},
@@ -556,8 +606,24 @@ static const struct {
     {copy_of_a_freed_set, "bits_count_ones: `set` has 80 values of 8 bytes in memory", BY_ASAN},
     {own_freed_twice, "bits_own_free: `own` has 4 values of 8 bytes in memory", BY_ASAN},
     {own_of_freed_room, "bits_own_insert: `own` has 4 values of 8 bytes in memory", BY_ASAN},
-    {freed_twice, "attempting double-free", OF_ASAN},
+    {freed_of_few_words, "bits_free: `set` has 2 words, and BITS_WORDS(100) is 4", 1},
+    {freed_null, "bits_free: `set` is NULL", 1},
+    {freed_table_of_few_words, "bits_rows_free: `rows` has 4 words, and bits_rows_words(3, 70) is 12", 1},
+    {freed_twice, "bits_free: `set` has 4 values of 8 bytes in memory that is not the program's, or is freed", BY_ASAN},
+    {table_freed_twice, "bits_rows_free: `rows` has 12 values of 8 bytes in memory", BY_ASAN},
     {freed_array, "attempting free on address which was not malloc()-ed", OF_ASAN},
+    {freed_twice, "bits_free: `set` has words that bits_new did not allocate, or that are freed", BY_FREE},
+    {table_freed_twice, "bits_rows_free: `rows` has words that bits_rows_new did not allocate, or that are freed", BY_FREE},
+    {freed_array, "bits_free: `set` has words that bits_new did not allocate", BY_FREE},
+    {freed_array_of_the_stack, "bits_free: `set` has words that bits_new did not allocate", BY_FREE},
+    {freed_view, "bits_free: `set` has words that bits_new did not allocate", BY_FREE},
+    {freed_row, "bits_free: `set` has words that bits_new did not allocate", BY_FREE},
+    {freed_own, "bits_free: `set` has words that bits_new did not allocate", BY_FREE},
+    {freed_table_of_an_array, "bits_rows_free: `rows` has words that bits_rows_new did not allocate", BY_FREE},
+    {freed_set_as_a_table, "bits_rows_free: `rows` has words that bits_rows_new did not allocate", BY_FREE},
+    {freed_under_a_copy, "bits_free: `set` has words that bits_new did not allocate, or that are freed", BY_FREE},
+    {freed_copy, "nothing: its words are those of a new set", NEVER},
+    {freed_once, "nothing: each set is freed once, and what is left of it may be", NEVER},
     {load_of_a_word, "nothing: a number may have 64 bits", NEVER},
     {store_of_a_word, "nothing: a number may have 64 bits", NEVER},
     {gap_of_none_past, "nothing: any number may be given", NEVER},
@@ -577,6 +643,16 @@ enum { HAS_ASAN = 1 };
 #else
 enum { HAS_ASAN = 0 };
 #endif
+#ifdef BITS_CHECK_FREE
+enum { HAS_FREE = 1 };
+#else
+enum { HAS_FREE = 0 };
+#endif
+
+/* Whether the call ends the program. */
+static bool stops_at(int at) {
+    return at <= LEVEL || (HAS_ASAN && (at == BY_ASAN || at == OF_ASAN)) || (HAS_FREE && at == BY_FREE);
+}
 
 /* Makes the call in a process of its own. Answers how that ended, and what it printed. */
 static int ended(void (*call)(void), char *said, size_t room) {
@@ -609,12 +685,12 @@ int main(void) {
     int wrong = 0;
     static char said[20000];
     for (size_t k = 0; k < sizeof CALLS / sizeof *CALLS; k++) {
-        /* (Without AddressSanitizer nobody knows what these do.) */
-        if (!HAS_ASAN && (CALLS[k].at == BY_ASAN || CALLS[k].at == OF_ASAN))
+        const bool stops = stops_at(CALLS[k].at);
+        /* (Otherwise nobody knows what these do.) */
+        if (!stops && CALLS[k].at > 2 && CALLS[k].at != NEVER)
             continue;
         const int status = ended(CALLS[k].call, said, sizeof said);
         const bool passed = WIFEXITED(status) && WEXITSTATUS(status) == 0 && !said[0];
-        const bool stops = CALLS[k].at <= LEVEL || (HAS_ASAN && CALLS[k].at <= OF_ASAN && CALLS[k].at > 2);
         if (!(stops ? is_told(k, status, said) : passed)) {
             printf("%s: wanted %s, and it ended as %d: %s\n", CALLS[k].wanted, stops ? "this" : "nothing", status, said);
             wrong++;

@@ -23,6 +23,12 @@
  * If a program defines BITS_CHECK before it includes this header, each call first checks the first three preconditions. Where
  * one of them is violated, the program ends with a line that says what was wrong, and where (bits_check.h).
  *
+ * bits_free and bits_rows_free check the set or the table too, but not who allocated its words: files with and without
+ * BITS_CHECK may be linked together. If each file of an executable or a shared object that allocates or frees sets defines
+ * BITS_CHECK and BITS_CHECK_FREE, the program ends where the words are not those that bits_new or bits_rows_new allocated (but
+ * those of an array, a row or a bits_own), and where they were freed before (by a copy of the struct). The latter is found late
+ * if a new set has these words by then: where the new set is freed.
+ *
  * Positions, ranges and other numbers have no precondition: if a position or a range is out of range, the return value says so
  * (for example false, 0 or BITS_NONE). No call allocates or frees memory, prints, blocks or ends the process; bits_new and
  * bits_free below are functions of this header, and not calls of the archive. Only the calls that initialize an iterator or
@@ -266,18 +272,21 @@ static inline const bits *bits_of_view(const bits_view *view) {
     return BITS_RECAST(const bits *, view);
 }
 
+/* What allocates the words of a set or of a table of bits. */
+#if defined(BITS_CHECK) && defined(BITS_CHECK_FREE)
+#include "bits_check_free.h"
+#define BITS_NEW_WORDS(count, is_table) \
+    fixedbitset_block_add(BITS_CAST(uint64_t *, BITS_CALLOC((count), sizeof(uint64_t))), (is_table))
+#else
+#define BITS_NEW_WORDS(count, is_table) BITS_CAST(uint64_t *, BITS_CALLOC((count), sizeof(uint64_t)))
+#endif
+
 /* A new, empty set of this length; bits_free frees its words. On allocation failure, or if no memory can hold a set of this
  * length, the words are NULL and the length is 0. A new set of length 0 has words that are not NULL, which no call reads. */
 static inline bits bits_new(size_t length) {
     const size_t count = BITS_WORDS(length);
-    uint64_t *words = BITS_CAST(uint64_t *, BITS_CALLOC(count ? count : 4, sizeof(uint64_t)));
+    uint64_t *words = BITS_NEW_WORDS(count ? count : 4, false);
     return bits_of(words, words ? length : 0);
-}
-
-/* Frees the words that bits_new allocated. The set then has length 0, and may be freed again. */
-static inline void bits_free(bits *set) {
-    BITS_FREE(set->words);
-    *set = bits_of(NULL, 0);
 }
 
 /* ---- implementation of the loops */
@@ -347,6 +356,19 @@ namespace fixedbitset_untested {
 #endif
 extern "C" {
 #endif
+
+/* Frees the words that bits_new allocated. The set then has length 0, and may be freed again. */
+static inline void bits_free(bits *set) {
+    BITS_FREE(set->words);
+    *set = bits_of(NULL, 0);
+}
+
+/* Frees the words that bits_rows_new allocated. The table then has no rows, and may be freed again. */
+static inline void bits_rows_free(bits_rows *rows) {
+    BITS_FREE(rows->words);
+    rows->words = NULL;
+    rows->count = rows->rows = 0;
+}
 
 /* The initial states of the loops. */
 static inline bits_loop bits_each(const bits *set, size_t from) {
@@ -722,14 +744,8 @@ static inline bits_rows bits_rows_of(uint64_t *words, size_t rows, size_t column
  * memory can hold the table, the words are NULL and the number of rows is 0. */
 static inline bits_rows bits_rows_new(size_t rows, size_t columns) {
     const size_t count = bits_rows_words(rows, columns);
-    uint64_t *words = count == BITS_NONE ? NULL : BITS_CAST(uint64_t *, BITS_CALLOC(count ? count : 4, sizeof(uint64_t)));
+    uint64_t *words = count == BITS_NONE ? NULL : BITS_NEW_WORDS(count ? count : 4, true);
     return bits_rows_of(words, words ? rows : 0, columns);
-}
-
-/* Frees the words that bits_rows_new allocated. The table then has no rows, and may be freed again. */
-static inline void bits_rows_free(bits_rows *rows) {
-    BITS_FREE(rows->words);
-    *rows = bits_rows_of(NULL, 0, rows->columns);
 }
 
 #ifdef BITS_CHECK

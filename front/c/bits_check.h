@@ -1,5 +1,5 @@
-/* bits.h includes this file if BITS_CHECK is defined: each call of the archive then checks its preconditions before it does
- * anything else. Where a precondition is violated, the program prints a line and ends by abort():
+/* bits.h includes this file if BITS_CHECK is defined: each call of the archive, bits_free and bits_rows_free then check their
+ * preconditions before they do anything else. Where a precondition is violated, the program prints a line and ends by abort():
  *
  *     program.c:12: bits_insert: `set` has 1 words, and BITS_WORDS(64) is 4
  *
@@ -177,6 +177,17 @@ static inline void fixedbitset_ask_each_row(fixedbitset_place here, const bits_r
         fixedbitset_ask_row(here, rows, row);
 }
 
+/* Checks that bits_new or bits_rows_new allocated the words, and that they are not freed. */
+static inline void fixedbitset_ask_new(fixedbitset_place here, const char *who, const uint64_t *words, bool is_table) {
+#ifdef BITS_CHECK_FREE
+    if (words && !fixedbitset_block_remove(words, is_table))
+        fixedbitset_stop(here, "`%s` has words that %s did not allocate, or that are freed", who,
+                         is_table ? "bits_rows_new" : "bits_new");
+#else
+    (void)here, (void)who, (void)words, (void)is_table;
+#endif
+}
+
 static inline void fixedbitset_ask_walk(fixedbitset_place here, const bits_walk *walk) {
     fixedbitset_ask_place(here, "walk", walk, sizeof *walk);
     fixedbitset_ask_words(here, "walk", walk->words, walk->count);
@@ -273,6 +284,10 @@ static inline void fixedbitset_ask_done(fixedbitset_place here, bool is_done) {
         return answer;                                                                                  \
     }
 
+BITS_TESTED_VOID(free, (bits *set), (set),
+                 BITS_ASK_PLACE(set) fixedbitset_ask_new(here, "set", set->words, false); BITS_ASK_SET(set))
+BITS_TESTED_VOID(rows_free, (bits_rows *rows), (rows),
+                 BITS_ASK_PLACE(rows) fixedbitset_ask_new(here, "rows", rows->words, true); fixedbitset_ask_rows(here, rows);)
 BITS_TESTED(bits, over, (uint64_t *words, size_t count, size_t length), (words, count, length),
             fixedbitset_ask_enough(here, words, count, length);)
 BITS_TESTED(bits_loop, each, (const bits *set, size_t from), (set, from), BITS_ASK_SET(set))
@@ -506,6 +521,8 @@ BITS_TESTED(bool, runs_next_back, (bits_run_walk *walk, size_t *start, size_t *e
 
 /* made by front/calls */
 #ifdef BITS_NO_SHORT_NAMES
+#define fixedbitset_bits_free(...) BITS_CALL(free, __VA_ARGS__)
+#define fixedbitset_bits_rows_free(...) BITS_CALL(rows_free, __VA_ARGS__)
 #define fixedbitset_bits_over(...) BITS_CALL(over, __VA_ARGS__)
 #define fixedbitset_bits_each(...) BITS_CALL(each, __VA_ARGS__)
 #define fixedbitset_bits_each_zero(...) BITS_CALL(each_zero, __VA_ARGS__)
@@ -629,6 +646,8 @@ BITS_TESTED(bool, runs_next_back, (bits_run_walk *walk, size_t *start, size_t *e
 #define fixedbitset_bits_symmetric_difference_batch(...) BITS_CALL(symmetric_difference_batch, __VA_ARGS__)
 #define fixedbitset_bits_symmetric_difference_batch_back(...) BITS_CALL(symmetric_difference_batch_back, __VA_ARGS__)
 #else
+#define bits_free(...) BITS_CALL(free, __VA_ARGS__)
+#define bits_rows_free(...) BITS_CALL(rows_free, __VA_ARGS__)
 #define bits_over(...) BITS_CALL(over, __VA_ARGS__)
 #define bits_each(...) BITS_CALL(each, __VA_ARGS__)
 #define bits_each_zero(...) BITS_CALL(each_zero, __VA_ARGS__)

@@ -21,6 +21,7 @@
 #define bits_of_view fixedbitset_bits_of_view
 #define bits_new fixedbitset_bits_new
 #define bits_free fixedbitset_bits_free
+#define bits_rows_free fixedbitset_bits_rows_free
 #define bits_each fixedbitset_bits_each
 #define bits_each_zero fixedbitset_bits_each_zero
 #define bits_each_back fixedbitset_bits_each_back
@@ -150,7 +151,6 @@
 #define bits_symmetric_difference_batch_back fixedbitset_bits_symmetric_difference_batch_back
 #define bits_rows_of fixedbitset_bits_rows_of
 #define bits_rows_new fixedbitset_bits_rows_new
-#define bits_rows_free fixedbitset_bits_rows_free
 #define bits_own_free fixedbitset_bits_own_free
 #define bits_own_reserve fixedbitset_bits_own_reserve
 #define bits_own_resize fixedbitset_bits_own_resize
@@ -181,6 +181,7 @@
 #undef bits_of_view
 #undef bits_new
 #undef bits_free
+#undef bits_rows_free
 #undef bits_each
 #undef bits_each_zero
 #undef bits_each_back
@@ -310,7 +311,6 @@
 #undef bits_symmetric_difference_batch_back
 #undef bits_rows_of
 #undef bits_rows_new
-#undef bits_rows_free
 #undef bits_own_free
 #undef bits_own_reserve
 #undef bits_own_resize

@@ -56,6 +56,7 @@ int main(void) {
     uint64_t words[BITS_WORDS(300)] = {0};
     OF_HEADER(bits) set = BITS_OF(words, 300);
     OF_HEADER(bits_own) own = BITS_OWN;
+    OF_HEADER(bits) made = OF_HEADER(bits_new)(9);
     size_t sum = 0;
     bool (*const insert)(OF_HEADER(bits) *, size_t) = OF_HEADER(bits_insert);
     if (!insert(&set, 1) || !OF_HEADER(bits_take)(&set, 1))
@@ -67,5 +68,6 @@ int main(void) {
     BITS_FOR_EACH(p, &own.set) sum += p;
     BITS_FOR_EACH_RUN(start, end, &own.set) sum += end - start;
     OF_HEADER(bits_own_free)(&own);
+    OF_HEADER(bits_free)(&made);
     return sum == 304 ? 0 : 3;
 }

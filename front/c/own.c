@@ -7,13 +7,14 @@
 #include <stdlib.h>
 #include <string.h>
 
-/* Whether memory is refused, the most bytes that are given at once, and how many pieces are out. */
+/* Whether memory is refused, the most bytes that are given at once, and how many pieces are out. As some allocators do, this one
+ * returns NULL for no bytes. */
 static bool refuses;
 static size_t most = (size_t)1 << 40;
 static int out;
 
 static void *give(void *pointer, size_t size) {
-    if (refuses || size > most)
+    if (refuses || !size || size > most)
         return NULL;
     out += !pointer;
     return realloc(pointer, size);
@@ -115,6 +116,20 @@ static void refused(void) {
     assert(out == 0);
 }
 
+/* New sets and tables without a position have words too: NULL says that memory is refused. */
+static void no_positions(void) {
+    bits none = bits_new(0);
+    bits_rows rowless = bits_rows_new(0, 70), narrow = bits_rows_new(5, 0);
+    bits_own own = BITS_OWN;
+    assert(none.words && rowless.words && narrow.words && narrow.rows == 5 && out == 3);
+    assert(bits_own_reserve(&own, 0) && bits_own_resize(&own, 0) && bits_own_copy(&own, &none) && bits_own_union(&own, &none));
+    bits_free(&none);
+    bits_rows_free(&rowless);
+    bits_rows_free(&narrow);
+    bits_own_free(&own);
+    assert(out == 0);
+}
+
 static void texts_written(void) {
     const size_t some[] = {0, 1, 2, 3, 8, 63, 64, 99};
     bits set = bits_new(100);
@@ -208,6 +223,7 @@ int main(void) {
     growth();
     two_sets();
     refused();
+    no_positions();
     texts_written();
     texts_read();
     texts_that_grow();

@@ -1,4 +1,12 @@
-/// <reference lib="esnext.disposable" />
+/** What the library esnext.disposable of TypeScript 5.2 declares, for earlier versions and for other libraries. */
+declare global {
+  interface SymbolConstructor {
+    readonly dispose: unique symbol;
+  }
+  interface Disposable {
+    [Symbol.dispose](): void;
+  }
+}
 
 /**
  * A set of positions below a length. A position or range that is not below it is a RangeError, where nothing else is said.
@@ -35,6 +43,8 @@ export interface FixedBitSet extends Iterable<number>, Disposable {
   to_bytes(): Uint8Array;
   /** What JSON.stringify writes, as serde_json does for the crate. `from_bytes(length, data)` makes the set again. */
   toJSON(): { length: number; data: number[] };
+  /** The text that PostgreSQL's type `bitset` reads, with runs and the length: `{3,7,10-12}/64`. Template literals write it. */
+  toString(): string;
 
   /** Whether the position is in the set: false past the length. */
   contains(position: number): boolean;

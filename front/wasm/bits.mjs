@@ -125,6 +125,10 @@ export async function load(source) {
       const words = count > shown.length ? [...shown, `... ${count - shown.length} more`] : shown;
       return `FixedBitSet(${this.#length}) {${words.map((it) => ` ${it}`)}${words.length ? " " : ""}}`;
     }
+    toString() {
+      const runs = [...this.runs()].map(([start, end]) => (end - start > 1 ? `${start}-${end - 1}` : start));
+      return `{${runs}}/${this.#length}`;
+    }
     contains(position) { return Boolean(calls.contains(this.#at, word(position))); }
     insert(position) { calls.insert(this.#at, this.#within(position)); }
     remove(position) { calls.remove(this.#at, this.#within(position)); }

@@ -140,7 +140,7 @@ function neighbours({ fast, slow }) {
   assert.deepEqual([fast.count_ones(), fast.count_zeroes()], [ones.length, zeroes.length]);
 }
 
-/** Walks over positions and stretches, gaps, and what the console shows. */
+/** Walks over positions and stretches, gaps, what the console shows, and the text. */
 function walks({ fast, slow }) {
   const start = below(slow.length + 1), end = start + below(slow.length + 1 - start), at = anywhere(slow.length);
   assert.deepEqual([[...fast.ones(start, end)], [...fast.zeroes(start, end)]], [slow.ones(start, end), slow.zeroes(start, end)]);
@@ -155,6 +155,8 @@ function walks({ fast, slow }) {
   const ones = slow.ones(), shown = ones.slice(0, count), more = ones.length - shown.length;
   const words = more ? [...shown, `... ${more} more`] : shown, inside = words.length ? ` ${words.join(", ")} ` : "";
   assert.equal(inspect(fast, { maxArrayLength: count }), `FixedBitSet(${slow.length}) {${inside}}`);
+  const stretches = slow.runs(true).map(([start, end]) => (end === start + 1 ? `${start}` : `${start}-${end - 1}`));
+  assert.equal(`${fast}`, `{${stretches.join(",")}}/${slow.length}`);
 }
 
 /** Ranks, which stay where the set changes. */
@@ -169,15 +171,18 @@ function ranked({ fast, slow }) {
   assert.deepEqual([ranks.rank(at), ranks.select(0)], [0, undefined]);
 }
 
-/** A set as bytes, in each form in which these are taken, and as JSON. */
+/** A set as bytes, in each form in which these are taken, whole or cut, and as JSON. */
 function bytes({ fast, slow }) {
-  const data = fast.to_bytes(), length = someLength();
-  const forms = [data, data.buffer, [...data], new Uint8Array([255, ...data]).subarray(1)];
+  const data = fast.to_bytes(), length = someLength(), cut = below(data.length + 1);
+  const words = new Uint32Array(new Uint8Array([255, 255, 255, 255, ...data]).buffer);
+  const [forms, count] = below(2)
+    ? [[data, data.buffer, [...data], new Uint8Array([255, ...data]).subarray(1), words.subarray(1)], data.length]
+    : [[data.slice(0, cut).buffer, [...data.slice(0, cut)], new Uint8Array(words.buffer, 4, cut), new DataView(words.buffer, 4, cut)], cut];
   assert.equal(data.length, 8 * Math.ceil(slow.length / 64));
   assert.deepEqual(slow.all(0, 8 * data.length).filter((it) => (data[it >> 3] >> (it & 7)) & 1), slow.ones());
   assert.equal(JSON.stringify(fast), `{"length":${slow.length},"data":[${data}]}`);
-  const kept = slow.ones().filter((it) => it < length);
-  same({ fast: FixedBitSet.from_bytes(length, forms[below(4)]), slow: new Slow(length, kept) });
+  const kept = slow.ones().filter((it) => it < Math.min(length, 8 * count));
+  same({ fast: FixedBitSet.from_bytes(length, forms[below(forms.length)]), slow: new Slow(length, kept) });
 }
 
 /** A part of a set, and positions that are moved. */
@@ -270,6 +275,28 @@ async function strangers(set) {
   assert.equal(set.length, 0);
 }
 
+/** Walks in whose midst the set grows go on to what is new. */
+function growing() {
+  const set = new FixedBitSet(600), all = [...Array(3000).keys()], seen = [];
+  for (const it of set.zeroes()) {
+    seen.push(it);
+    if (it === 100) set.grow(3000);
+  }
+  assert.deepEqual(seen, all);
+  const other = new FixedBitSet(600, all.slice(0, 600)), later = [];
+  for (const it of other) {
+    later.push(it);
+    if (it === 100) other.grow(3000), other.insert_range(1000, 3000);
+  }
+  assert.deepEqual(later, [...all.slice(0, 600), ...all.slice(1000)]);
+  const third = new FixedBitSet(10, [3]), gaps = [];
+  for (const gap of third.zero_runs()) {
+    if (gaps.push(gap) > 2) break;
+    third.grow(2000);
+  }
+  assert.deepEqual(gaps, [[0, 3], [4, 2000]]);
+}
+
 /** Walks in whose midst the set changes, numbers that are none, and sets of another instance. */
 async function others() {
   const set = new FixedBitSet(3000), seen = [];
@@ -297,7 +324,11 @@ async function others() {
   assert.throws(() => FixedBitSet.from_bytes(8, 8), TypeError);
   const text = '{"length":66,"data":[1,2,0,0,0,0,0,0,2,0,0,0,0,0,0,0]}', { length, data } = JSON.parse(text); // (as of ../serde)
   assert.equal(JSON.stringify(FixedBitSet.from_bytes(length, data)), text);
-  assert.equal(inspect({ a: { b: { c: set } } }), "{ a: { b: { c: [FixedBitSet] } } }");
+  const few = new FixedBitSet(64, [3, 7, 10, 11, 12]), shown = "FixedBitSet(64) { 3, 7, 10, 11, 12 }";
+  assert.equal(inspect([few, { a: { b: few } }]), `[ ${shown}, { a: { b: [FixedBitSet] } } ]`);
+  assert.equal(inspect({ a: { b: few } }), `{ a: { b: ${shown} } }`);
+  assert.equal(inspect({ a: { b: { c: few } } }, { depth: null }), `{ a: { b: { c: ${shown} } } }`);
+  assert.equal(`${few}`, "{3,7,10-12}/64"); // (as in ../postgres)
   await strangers(set);
   const half = 2 ** 31, large = new FixedBitSet(half + 100, [5, half + 50]); // (a number of 32 bits that has a sign ends there)
   assert.deepEqual([large.positions(), large.maximum(), large.count_zeroes()], [[5, half + 50], half + 50, half + 98]);
@@ -386,6 +417,7 @@ async function run(from, to) {
 // (Most wrong lines are found by the first steps.)
 const first = Math.min(steps, 1000);
 await run(0, first);
+growing();
 await others();
 await freed();
 await grown();

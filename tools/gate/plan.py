@@ -168,7 +168,7 @@ class Plan:
         postgres = Stage("the type for PostgreSQL", ("front/postgres/test",), inputs, server, ("README.md",))
         glue = ("front/wasm", "front/wrong", "front/wrong_lines", "front/checks.sh", "tools/kept.py")
         made = ("front/archive", "front/compilers", "front/c/bits.h", "front/c/source", "front/rust/src", *library)
-        browsers = Stage("sets in a browser and in Node", ("front/wasm/test",), (*glue, *made), ("node", "npm", "wasm-ld", "chromium", "python3"))
+        browsers = Stage("sets in a browser and in Node", ("front/wasm/test",), (*glue, *made), ("node", "npm", "tsc", "wasm-ld", "chromium", "python3"))
         return [archives, postgres, browsers] if self.has("bits_c") else []
 
     def last(self):
