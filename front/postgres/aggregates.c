@@ -120,25 +120,19 @@ FUNCTION(bitset_agg_position_step) {
 }
 
 /* The state as a set of a length. */
-static Datum finished(FunctionCallInfo fcinfo, const bits *state, size_t length) {
+static Datum finished(FunctionCallInfo fcinfo, size_t length) {
     bits copy;
     MemoryContextSwitchTo(enter_aggregate(fcinfo));
-    copy = copy_set(state, length);
+    copy = copy_set(get_state(fcinfo, 0), length);
     return stored_set(&copy);
 }
 
 /* The state stays as it is, for a window may go on with it. Between processes it travels as a stored set too, under the name
  * of bytea. */
-FUNCTION(bitset_final) {
-    const bits *state = get_state(fcinfo, 0);
-    return finished(fcinfo, state, state->length);
-}
+BY(bitset_final, finished, get_state(fcinfo, 0)->length)
 
 /* (A state without a length has a position, for the first one makes it.) */
-FUNCTION(bitset_agg_final) {
-    const bits *state = get_state(fcinfo, 0);
-    return finished(fcinfo, state, bits_maximum(state) + 1);
-}
+BY(bitset_agg_final, finished, bits_maximum(get_state(fcinfo, 0)) + 1)
 
 FUNCTION(bitset_count_final) {
     const bits *state = get_state(fcinfo, 0);

@@ -1,16 +1,10 @@
 /* Functions and operators over sets: each is a call of the library between reading and making. */
 #include "fixedbitset.h"
 
-#include "access/detoast.h"
 #include "common/hashfn.h"
 
-/* Only the length is fetched, where the set is stored out of line and not compressed. */
 FUNCTION(bitset_length) {
-    struct varlena *head = PG_DETOAST_DATUM_SLICE(PG_GETARG_DATUM(0), 0, sizeof(uint32));
-    uint32 length = 0;
-    memcpy(&length, VARDATA_ANY(head), Min(VARSIZE_ANY_EXHDR(head), sizeof(length)));
-    pfree(head);
-    PG_RETURN_INT64(length);
+    PG_RETURN_INT64(length_of(PG_GETARG_DATUM(0)));
 }
 
 /* A position, or null where there is none. */

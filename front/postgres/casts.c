@@ -1,6 +1,7 @@
 /* Constructors, and casts from and to other types. */
 #include "fixedbitset.h"
 
+#include "access/detoast.h"
 #include "catalog/pg_type.h"
 #include "utils/array.h"
 #include "utils/builtins.h"
@@ -77,9 +78,9 @@ FUNCTION(bitset_to_positions_part) {
 
 /* The positions that bytes say, eight a byte, least first, below a length where one is given. */
 FUNCTION(bitset_from_bytes) {
-    bytea *bytes = PG_GETARG_BYTEA_PP(0);
-    int64 count = VARSIZE_ANY_EXHDR(bytes);
+    int64 count = toast_raw_datum_size(PG_GETARG_DATUM(0)) - VARHDRSZ;
     bits set = new_set(checked_length(PG_NARGS() == 2 ? PG_GETARG_INT64(1) : count * BITS_PER_BYTE));
+    bytea *bytes = PG_GETARG_BYTEA_PP(0);
     bits_from_bytes(&set, (const uint8_t *)VARDATA_ANY(bytes), count);
     PG_FREE_IF_COPY(bytes, 0);
     return stored_set(&set);
@@ -92,8 +93,8 @@ FUNCTION(bitset_to_bytea) {
 
 /* A bit string has its first bit uppermost in its byte, and a set has position 0 lowest. */
 FUNCTION(bitset_from_varbit) {
+    bits set = new_set(checked_length(length_of(PG_GETARG_DATUM(0))));
     VarBit *string = PG_GETARG_VARBIT_P_COPY(0);
-    bits set = new_set(VARBITLEN(string));
     bits_reverse_each_byte(VARBITS(string), VARBITBYTES(string));
     bits_from_bytes(&set, VARBITS(string), VARBITBYTES(string));
     pfree(string);

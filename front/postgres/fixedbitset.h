@@ -105,6 +105,10 @@ enum { OVERLAPS = 1, CONTAINS = 2, CONTAINS_POSITION = 3, SUBSET = 4, CONTAINS_E
 /* What the module's files call of each other is not for other modules, so it is called directly. */
 #pragma GCC visibility push(hidden)
 
+/* The setting fixedbitset.longest: a double, for PostgreSQL has none in 64 bits. */
+extern double longest;
+
+extern uint32 length_of(Datum datum);
 extern const bits *read_set(Reading *reading, Datum datum);
 extern void done_reading(Reading *reading);
 

@@ -9,9 +9,21 @@ PG_MODULE_MAGIC;
 
 #define NOT_A_SET "stored bytes are not those of a bitset"
 
+double longest = MAX_LENGTH;
+
 /* How many words a set is stored with: the blocks that it needs where these are few, and else all. */
 static size_t stored_words(const bits *set) {
     return set->length <= SHORT_LENGTH ? bits_blocks(set->length) : set->count;
+}
+
+/* The length of a datum, a set or a bit string: the first four bytes. Only these are fetched, where it is stored out of line and
+ * not compressed. */
+uint32 length_of(Datum datum) {
+    struct varlena *head = PG_DETOAST_DATUM_SLICE(datum, 0, sizeof(uint32));
+    uint32 length = 0;
+    memcpy(&length, VARDATA_ANY(head), Min(VARSIZE_ANY_EXHDR(head), sizeof(length)));
+    pfree(head);
+    return length;
 }
 
 /* The set of a datum. Its words are those of the datum itself, or a copy, which done_reading frees. What the library asks of
@@ -121,10 +133,12 @@ size_t not_negative(int64 number, const char *name) {
     return number;
 }
 
-/* The length, which a set may have. */
+/* A length that a user gives, which a set may have. */
 size_t checked_length(int64 length) {
-    if (length > MAX_LENGTH)
-        REFUSE(PROGRAM_LIMIT_EXCEEDED, "length %lld of a bitset is past the greatest, " CppAsString2(MAX_LENGTH), (long long)length);
+    if (length > longest)
+        ereport(ERROR, (errcode(ERRCODE_PROGRAM_LIMIT_EXCEEDED),
+                        errmsg("length %lld of a bitset is past the greatest, %lld", (long long)length, (long long)longest),
+                        longest < MAX_LENGTH ? errhint("The setting fixedbitset.longest may be up to " CppAsString2(MAX_LENGTH) ".") : 0));
     return not_negative(length, "length of a bitset");
 }
 

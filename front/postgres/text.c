@@ -33,13 +33,21 @@ static int output_form = OUTPUT_AUTO;
 /* A text in runs up to this is not compared with the one in digits. */
 #define SHORT_TEXT 100
 
+static const char *show_longest(void) {
+    return psprintf("%lld", (long long)longest);
+}
+
 void _PG_init(void);
 
-/* Called by the server once it has loaded the module. */
+/* Called by the server once it has loaded the module. Any user may set both. The greatest length is a limit for values, and none
+ * for who writes queries, which can take as much memory without a set: the owner of a database sets it, who may be no superuser. */
 void _PG_init(void) {
     DefineCustomEnumVariable("fixedbitset.output", "How a bitset is written as text.", NULL, &output_form, OUTPUT_AUTO,
                              output_forms, PGC_USERSET, 0, NULL, NULL, NULL);
-    EmitWarningsOnPlaceholders("fixedbitset");
+    DefineCustomRealVariable("fixedbitset.longest", "The greatest length in bits that a text, a value, a cast or an argument may say.",
+                             "Stored sets may be longer.", &longest, MAX_LENGTH, 0, MAX_LENGTH, PGC_USERSET, 0, NULL, NULL,
+                             show_longest);
+    MarkGUCPrefixReserved("fixedbitset");
 }
 
 /* The text, where it is read, and whether spaces may stand between its parts. */
@@ -108,7 +116,7 @@ static size_t take_length(Parser *parser) {
     length = take_number(parser, 0, MAX_LENGTH, "The length is past the greatest, " CppAsString2(MAX_LENGTH) ",");
     skip_spaces(parser);
     expect(parser, *parser->at == '\0', "The end is expected");
-    return length;
+    return checked_length(length);
 }
 
 /* The form in runs. Its length is read first, so that each item is checked and inserted as it is read. */
@@ -248,7 +256,7 @@ FUNCTION(bitset_recv) {
     bits set;
     if (length < 0 || length > MAX_LENGTH || OCTETS(length) != (size_t)count)
         REFUSE(INVALID_BINARY_REPRESENTATION, "external bitset of length %lld has %d bytes", (long long)length, count);
-    set = new_set(length);
+    set = new_set(checked_length(length));
     pq_copymsgbytes(message, (char *)set.words, count);
     if (!IS_SET(&set))
         REFUSE(INVALID_BINARY_REPRESENTATION, "external bitset of length %lld has a position past its length",

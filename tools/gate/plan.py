@@ -164,7 +164,7 @@ class Plan:
         library = self.sources("bits_c", parts=("src", "specs", "proofs"))
         archives = Stage("the archives for C", ("front/lib/test",), ("front/lib", "front/archive", "front/checks.sh", "front/c", *library), ("cc",))
         server = ("pg_config", "psql", "dpkg-deb", *MAKERS)
-        inputs = ("front/postgres", "front/lib", "front/c", "front/rust/src", "front/rust/LICENSE-MIT")
+        inputs = ("front/postgres", "front/lib", "front/c", "front/rust/src", "front/rust/LICENSE-MIT", "CHANGELOG.md")
         postgres = Stage("the type for PostgreSQL", ("front/postgres/test",), inputs, server, ("README.md",))
         glue = ("front/wasm", "front/wrong", "front/wrong_lines", "front/checks.sh", "tools/kept.py")
         made = ("front/archive", "front/compilers", "front/c/bits.h", "front/c/source", "front/rust/src", *library)

@@ -65,6 +65,13 @@ ANALYZE few;
 SELECT null_frac, most_common_elems, most_common_elem_freqs FROM pg_stats WHERE tablename = 'few';
 SELECT condition, (expected('few', condition)).* FROM (VALUES ('tags @> 0'), ('tags @> 6'), ('tags @> 39'), ('tags <@ ''{0-63}/64''')) v(condition);
 
+-- what an index finds for `<@`: the rows with one of the positions, and those without any, which are no more than all rows
+CREATE TABLE sparse AS SELECT (ARRAY[NULL, '{}/64', bitset(ARRAY[id / 10 % 60], 64), '{1-8}/64'])[1 + (id % 10 + 2) / 3] AS tags
+FROM generate_series(1::bigint, 6000) id;
+ANALYZE sparse;
+SELECT few, (expected('sparse', format('tags <@? %L', few))).expected, (SELECT count(*) FROM sparse WHERE tags && few OR is_clear(tags)) AS found
+FROM unnest('{"{20}/64","{1-8}/64"}'::bitset[]) few;
+
 -- columns without positions, without sets and without rows
 CREATE TABLE none AS SELECT bitset(64) AS clear, NULL::bitset AS missing FROM generate_series(1, 300);
 ANALYZE none;
@@ -89,6 +96,6 @@ SELECT most_common_elems FROM pg_stats WHERE tablename = 'long';
 CREATE TABLE unlike AS SELECT CASE WHEN id <= 2000 THEN insert_range(bitset(2000), '[0,1000)') ELSE '{1}/2000' END AS tags FROM generate_series(1, 6000) id;
 ANALYZE unlike;
 SELECT condition, rows, abs(expected - rows) < 100 AS near FROM unnest('{tags @> 0,tags @> 1}'::text[]) condition, expected('unlike', condition);
-DROP TABLE tagged, five, rough, few, none, narrowed, long, unlike;
+DROP TABLE tagged, five, rough, few, none, narrowed, long, unlike, sparse;
 DROP DOMAIN narrow;
 DROP FUNCTION expected;

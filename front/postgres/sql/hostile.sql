@@ -21,6 +21,8 @@ SELECT maximum(append(bitset(4294967231), '{0}/1'));
 SELECT copy_range('{}/10', '{1}/10', '[0,10)', 9223372036854775807), copy_range('{}/10', '{1}/10', '[0,10)', -9223372036854775808);
 SELECT select_one(insert_range(bitset(4294967232), '[4294967000,)'), 231);
 SELECT bitset(4294967232)::bit varying;
+SELECT bitset(2147483641)::bit varying;
+SELECT maximum(insert(bitset(2147483640), 2147483639)::bit varying::bitset);
 SELECT insert(bitset(4294967232), 4294967231) @> 4294967231;
 SELECT bitset_agg(p) FROM unnest('{4294967231}'::bigint[]) p;
 DROP EXTENSION fixedbitset;

@@ -80,6 +80,10 @@ SELECT count_ones(~s) = count_zeroes(s, '(,)') AS "not", count_ones(s | t) = uni
     count_ones(remove_range(s, '[16777210,33554440)')) = count_ones(s) - count_ones(s, '[16777210,33554440)') AS removed
 FROM (SELECT s, shift_up(truncate(s, 20000000), 3) AS t FROM long WHERE start < 33554432) v;
 DROP TABLE long;
+-- and where it is written, read, cast and listed: the parts of random positions differ, so each form has to give them all back
+SELECT length(s), md5(bytes(s)), s::text = 'x:' || encode(bytes(s), 'hex') || '/' || length(s) AS digits, s::text::bitset = s AS text,
+    s::bit varying::bitset = s AS bits, bitset(positions(truncate(s, 36000000)), length(s)) = remove_range(s, '[36000000,)') AS positions
+FROM (SELECT bitset(string_agg(sha512(int8send(n)), '')) FROM generate_series(1, 273438) n) v(s);
 SELECT first_lacking(:s, :t), first_lacking(:t, :s), first_lacking(:s, :s), first_lacking('{1}/5', '{1,99}/100'), first_lacking('{}/0', '{}/9');
 -- the next that both have; a negative number is before all positions
 SELECT p, next_common(:s, :t, p), next_common(:t, :s, p) FROM unnest('{-1,0,7,8,16,21,64,9223372036854775807}'::bigint[]) p;

@@ -1,8 +1,8 @@
 --
 -- what may be asked under a policy, and what the planner may take of functions
 --
--- each operator that answers yes or no is LEAKPROOF
-SELECT o.oid::regoperator, p.proleakproof FROM pg_operator o JOIN pg_proc p ON p.oid = o.oprcode
+-- each operator that answers yes or no is LEAKPROOF, and all but `<@?` have a commutator
+SELECT o.oid::regoperator, p.proleakproof, o.oprcom::regoperator, o.oprnegate::regoperator FROM pg_operator o JOIN pg_proc p ON p.oid = o.oprcode
 WHERE 'bitset'::regtype IN (o.oprleft, o.oprright) AND o.oprresult = 'boolean'::regtype ORDER BY o.oid::regoperator::text COLLATE "C";
 -- and so are the functions of these, those that compare, and no others
 SELECT oid::regprocedure FROM pg_proc WHERE proleakproof AND 'bitset'::regtype = ANY (proargtypes) ORDER BY oid::regprocedure::text COLLATE "C";

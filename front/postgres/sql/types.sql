@@ -112,6 +112,46 @@ SELECT runs('{}/0'), runs('{}/10'), runs('{0-299}/300');
 SELECT runs('{0,5-6}/7'), ones('{0,5-6}/7');
 SELECT bytes('{0,9,16}/17');
 
+-- a lower greatest length, which any role may set: it is for what is read, cast and made, and what is stored stays
+CREATE TABLE stored AS SELECT '{0,2000}/2001'::bitset AS s;
+SHOW fixedbitset.longest;
+CREATE ROLE regress_ann;
+SET ROLE regress_ann;
+SET fixedbitset.longest = 1000;
+RESET ROLE;
+DROP ROLE regress_ann;
+SELECT '{999}/1000'::bitset, length(('x:' || repeat('00', 125) || '/1000')::bitset), length(decode(repeat('00', 125), 'hex')::bitset),
+    length(repeat('0', 1000)::bit varying::bitset), bitset(1000), bitset('{}'::bigint[], 1000), bitset_from_bytes('', 1000);
+SELECT '{999}/1001'::bitset;
+SELECT ('x:' || repeat('00', 126) || '/1001')::bitset;
+SELECT decode(repeat('00', 126), 'hex')::bitset;
+SELECT repeat('0', 1001)::bit varying::bitset;
+SELECT B'0'::bit(1001)::bitset;
+SELECT bitset(1001);
+SELECT s, s | '{1}/2' AS joined, slice(s, '[1,)') AS part, count_ones(s), truncate(s, 3) FROM stored;
+SELECT resize(s, 2001) FROM stored;
+SELECT '{}/4294967233'::bitset;
+\set VERBOSITY sqlstate
+SELECT '{}/1001'::bitset;
+SELECT ('x:' || repeat('00', 126) || '/1001')::bitset;
+SELECT repeat('0', 1001)::bit varying::bitset;
+SELECT bitset(-1);
+SELECT '{'::bitset;
+SET fixedbitset.longest = -1;
+SET fixedbitset.longest = 4294967233;
+SET fixedbitset.longest = '1MB';
+\set VERBOSITY default
+SHOW fixedbitset.longest;
+SET fixedbitset.longest = 4294967232;
+SELECT '{999}/1001'::bitset;
+SET fixedbitset.longest = 0;
+SELECT '{}/0'::bitset;
+SELECT '{}/1'::bitset;
+RESET fixedbitset.longest;
+SHOW fixedbitset.longest;
+SELECT '{4294967231}/4294967232'::bitset;
+DROP TABLE stored;
+
 -- binary form
 SELECT bitset_send('{0,9,16}/17'), bitset_send('{}/0');
 
@@ -127,4 +167,10 @@ CREATE TABLE toasted (a bitset, b bitset);
 ALTER TABLE toasted ALTER b SET STORAGE EXTERNAL;
 INSERT INTO toasted VALUES ('{5,99999}/100000', '{5,99999}/100000');
 SELECT pg_column_size(a) < 1000, pg_column_size(b), length(a), length(b), a, b, a = b FROM toasted;
+DROP TABLE toasted;
+-- the same of values that are cast
+CREATE TABLE toasted (a bytea, b bytea, c bit varying);
+ALTER TABLE toasted ALTER b SET STORAGE EXTERNAL;
+INSERT INTO toasted SELECT a, a, bitset(a)::bit varying FROM unnest(ARRAY['', '\x0180', decode(repeat('0180', 6250), 'hex')]) a;
+SELECT pg_column_size(a) < 1000, pg_column_size(b), length(bitset(a)), bitset(a) = bitset(b) AS b, bitset(a) = bitset(c) AS c, count_ones(bitset(a)) FROM toasted;
 DROP TABLE toasted;
