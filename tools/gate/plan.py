@@ -10,7 +10,7 @@ SCRIPTS = "tools/gate"
 SHARED = ("tools/calls.py", "tools/kept.py", "tools/running.py")
 # The program that ./bits builds by cargo, and what builds it.
 PROGRAM, CARGO = "front/program", ("cargo", "rustc", "cc")
-# What finds crates for cargo where no registry answers.
+# What finds crates for cargo where it reaches no registry.
 OFFLINE = ("tools/offline", "tools/launch")
 MAKERS = ("cc", "gcc", "g++", "clang", "make", "cargo", "rustc", "pkg-config", "valgrind", "python3")
 
