@@ -37,12 +37,13 @@ class NotHere(Exception):
     """Nothing can be compared here, for this reason."""
 
 
-def libraries(top):
+def libraries(given):
     """The kit's MIR of all crates below a folder."""
-    paths = [top / f"crates/{it}/out/rlib/{it}.rlib/toolchain/mir.json" for it in TARGETS[1].modules]
-    missing = [str(path) for path in paths if not path.is_file()]
-    if missing or not shutil.which("rt"):
-        raise NotHere(f"{missing[0]}, which rt lib builds" if missing else "rt")
+    paths = [given.libraries.resolve() / f"crates/{it}/out/rlib/{it}.rlib/toolchain/mir.json" for it in TARGETS[1].modules]
+    missing = [f"{it}, which rt lib builds" for it in paths if not it.is_file()]
+    missing += [it for it in ("rt", "cargo", given.rustc) if not shutil.which(it)]
+    if missing:
+        raise NotHere(missing[0])
     return paths
 
 
@@ -84,8 +85,9 @@ def compare_all(names, kit, rustc):
 
 def not_tried(reason):
     """Says that nothing is tried here, and returns the status."""
-    print(f"not here, so not tried: {reason}")
-    return int(os.environ.get("CI") == "true")
+    is_wrong = os.environ.get("CI") == "true"
+    print(f"not here, so not tried: {reason}\n0 passed, {int(is_wrong)} failed")
+    return int(is_wrong)
 
 
 def main(words):
@@ -96,7 +98,7 @@ def main(words):
     if wrong := set(names) - {it.name for it in TARGETS}:
         parser.error(f"{min(wrong)} is no target")
     try:
-        paths = libraries(given.libraries.resolve())
+        paths = libraries(given)
     except NotHere as reason:
         return not_tried(reason)
     os.chdir(TOP)
