@@ -112,7 +112,6 @@ OF_PROGRAM = (
     ("flow/src/rounds.rt", "due.insert_range(..)", "due.insert_range(0..)", RANGE),
 )
 
-
 # Each is a module, a text that stands there, and one in whose place the second reading has to see that it is wrong.
 WRONG_MODULES = (
     ("program/bitcommands/commands/values.rs", "items: &[Value]", "items: &[Block]"),

@@ -1,6 +1,7 @@
 """The tables of front/erase: which modules it makes, and what these may have. They are closed: what they do not name is refused.
 
-A construct is added with a reason, and with a case in front/check_erase. That asks of each entry that some source needs it.
+A construct is added with a reason, and with a case in front/check_erase where no other is like it.
+That asks of each entry that some source has it.
 """
 import dataclasses
 
