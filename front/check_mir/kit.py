@@ -115,7 +115,9 @@ def type_words(kind):
         return type_words(value[2 if name == "Ref" else 0])
     if name in ("Unit", "Lit", "Const", "NumOf", "Num"):
         return []
-    return {"Param": ["*"], "Vector": ["u64x4"]}.get(name, ["?"] if value else [name.lower()])
+    if name == "Param":
+        return [f"*{value}"]
+    return ["u64x4"] if name == "Vector" else ["?"] if value else [name.lower()]
 
 
 class KitBody:

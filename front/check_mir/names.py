@@ -57,7 +57,7 @@ def type_words(kind):
     kind = re.sub(r"<\w as [^<>]*>::\w+", "X", re.sub(r"\{closure@[^}]*\}|dyn ", "", kind))
     kind = re.sub(r"; \w+\]", "]", re.sub(r"\balloc::vec::", "", re.sub(r"'\w+", "", kind)))
     words = [last(it) for it in re.findall(r"[A-Za-z_][\w:]*", kind)]
-    return ["*" if re.fullmatch(r"[A-Z]", it) else it for it in words if it not in ("mut", "const", "Global")]
+    return [f"*{it}" if re.fullmatch(r"[A-Z]", it) else it for it in words if it not in ("mut", "const", "Global")]
 
 
 def plain(path):

@@ -1,5 +1,4 @@
 """Runs two bodies step by step together: each event has to come on both sides, with equal terms."""
-import json
 
 import loops
 from rules import ARGUMENTS, EQUAL_TERMS, KIT_DROPS, LATER_DROPS, RUST_DROPS, of_terms
@@ -138,17 +137,26 @@ class Walk:
 
     def other_function(self, one, other, is_listed):
         """Why a call is of another function than the other, or nothing."""
-        kit, rust = one.types, other.types
-        if not is_listed and one.name != other.name:
-            return f"calls {one.name} | {other.name}"
-        # (Associated types are parameters of the kit.)
-        is_longer = rust is not None and kit[: len(rust)] == rust and (set(kit[len(rust) :]) <= {"*"} or kit == rust * 2)
-        if not is_listed and kit != rust and not is_longer:
-            return f"type arguments of {one.name}: {kit} | {rust}"
-        parameter = json.dumps(one.of) if one.of and other.of else ""
-        if "Param" in parameter and self.parameters.setdefault(parameter, other.of) != other.of:
-            return f"another parameter: {one.name}: {parameter} | {other.of}"
+        if not is_listed and (one.name != other.name or not self.equal_types(one.types, other.types)):
+            return f"calls {one.name} {one.types} | {other.name} {other.types}"
+        if one.of and other.of and "Param" in one.of and not self.is_parameter(f"*{one.of['Param']}", f"*{other.of}"):
+            return f"another parameter: {one.name}: {one.of} | {other.of}"
         return ""
+
+    def is_parameter(self, kit, rust):
+        """Whether a parameter of the kit's is this one of rustc's. Each has one partner, but an associated type, which the kit
+        has as a parameter of its own, may be any."""
+        rust = "*X" if rust.startswith("*<") else rust
+        back = self.parameters.setdefault(("of", rust), kit) == kit
+        return self.parameters.setdefault(kit, rust) == rust and (back or rust == "*X")
+
+    def equal_types(self, kit, rust):
+        """Whether type arguments are the same, where each parameter has one partner. The kit may have more: associated types."""
+        for one, other in zip(kit, rust):
+            if not (self.is_parameter(one, other) if one[0] == other[0] == "*" else one == other):
+                return False
+        more = kit[len(rust) :]
+        return len(kit) >= len(rust) and (all(it[0] == "*" for it in more) or kit == rust * 2)
 
     def change(self, state, one, other):
         """What a call may change: memory, and what is lent to it."""
