@@ -30,6 +30,11 @@ class Listed:
         pair = f"{kit} = {plain(rust)}"
         return self.has("pairs", pair) or self.has("pairs by the compiler", pair)
 
+    def explains(self, name, fault):
+        """Whether the file lists this difference of a body, which an entry has by how it begins."""
+        entries = [entry for heading, entry in self.entries if heading == "differ" and entry.startswith(f"{name}: ")]
+        return any(self.has("differ", it) for it in entries if fault.startswith(it.removeprefix(f"{name}: ")))
+
     def unused(self):
         """The entries that nothing needed."""
         return [f"[{heading}] {entry}" for heading, entry in self.entries

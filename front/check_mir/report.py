@@ -14,7 +14,7 @@ from terms import aggregate, field, number, read, target, write
 from walk import Walk
 
 # The trait methods of the kit's own libraries are declared there.
-OF_KIT = ("core", "std", "std_alloc", "std_collections", "std_heap", "std_io")
+OF_KIT = ("core", "std")
 FLAGS = ("--emit=mir", "-Ztrim-diagnostic-paths=no", "-Zmir-opt-level=0", "-Coverflow-checks=no", "-Cdebug-assertions=no",
          "-Cpanic=abort")
 
@@ -72,7 +72,7 @@ class Comparison:
         return self
 
     def report(self, name, fault):
-        if fault and self.listed.has("differ", name):
+        if fault and self.listed.explains(name, fault):
             self.explained.append(name)
         elif fault:
             self.faults[name] = fault
