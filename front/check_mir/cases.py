@@ -54,6 +54,10 @@ FAULTS = (
      "bitlanes::search::skip_zeros"),
     ("a constant of an impl", "bitlanes/ops.rs", "const KEEP: bool = true; // x or nothing is x", "const KEEP: bool = false;",
      "bitlanes::ops::OrWordOp::KEEP"),
+    ("a closure", "flow/problem.rs", "*from < nodes && *to < nodes", "*from < nodes && *to <= nodes",
+     "flow::problem::fn::ends_below::all"),
+    ("a function more", "bitlanes/word.rs", "#[inline(always)]\n", "pub fn one() -> usize {\n    1\n}\n\n#[inline(always)]\n",
+     "bitlanes::word::one"),
     ("another variable", "bitranks/directory.rs", "low = middle;", "high = middle;", "bitranks::directory::last_within"),
     ("a default in place of an override", "bitwalks/walks.rs",
      "    /// At least 0, and at most 64 for each word not yet taken and for each of the two that the\n"

@@ -79,19 +79,21 @@ class Names:
         self.crate, self.kit, self.bodies, self.derived = crate, kit, {}, set()
         self.impls = collections.defaultdict(list)
         self.own = re.compile(rf"(?:\w+::)*?(?:{crate.tops}|proved)::")
-        for path in (*crate.bodies, *(it for it in crate.constants if re.search(r"<impl at [^>]*>::[A-Z_]+$", it))):
+        of_impls = re.compile(rf"(?:\w+::)*?(?:{crate.tops})::(?:\w+::)*<impl at [^>]*>::[A-Z_]+")
+        for path in (*crate.bodies, *filter(of_impls.fullmatch, crate.constants)):
             self.declare(path)
 
     def declare(self, path):
         """Takes in a body of rustc: a function, a method of an impl, a closure or what a derive writes."""
         found = re.fullmatch(rf".*?\b(?:{self.crate.tops})::(.*?){IMPL}(?:::[A-Z]\w*)?::(\w+)(?:::\{{closure#(\d+)\}})?", path)
         if not found:
+            self.bodies[path] = path
             return
         module, file, *places, function, closure = found.groups()
         if closure:
             names = [it for it in self.kit.bodies if "::fn::" in it and "+" not in it and it.split("::")[-2] == function]
             names = [it for it in names if it.split("::")[0] == module.split("::")[0]]
-            self.bodies[path] = names[min(int(closure), len(names) - 1)] if names else None
+            self.bodies[path] = names[min(int(closure), len(names) - 1)] if names else path
         elif not file:
             self.bodies[path] = f"{module}::{function}"
         else:

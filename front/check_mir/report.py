@@ -60,15 +60,15 @@ class Comparison:
         self.target, self.kit, self.listed = target, kit, listed
         self.crate = Crate(text.replace("shim::of_sets::", "shim::"), folder, sources, target.tops)
         self.names = Names(self.crate, kit)
-        self.agree, self.faults, self.explained, self.made, self.compared = [], {}, [], [], set()
+        self.agree, self.faults, self.explained, self.compared = [], {}, [], set()
 
-    def run(self, only=None):
-        """Compares all bodies, or those of these names alone."""
+    def run(self):
+        """Compares all bodies, and looks at those that the kit alone has."""
         for path, name in self.names.bodies.items():
-            if name and self.target.has(name) and (only is None or name in only):
-                self.compare(path, name)
-        if only is None:
-            self.look_at_one_sided()
+            self.compare(path, name)
+        for name in set(filter(self.target.has, self.kit.bodies)) - self.compared:
+            if not self.listed.has("only the kit", name) and not self.listed.has(f"only the kit, not {self.target.name}", name):
+                self.faults[name] = "only the kit has it"
         return self
 
     def report(self, name, fault):
@@ -85,9 +85,7 @@ class Comparison:
             self.compared.add(name)
             for text in self.crate.bodies.get(path, [None]):
                 self.report(name, self.difference(path, name, text))
-        elif all(self.is_constructor(path, text) or self.is_copy(path, text) for text in self.crate.bodies[path]):
-            self.made.append(name)
-        elif not self.listed.has(f"only {self.target.name}", name):
+        elif not all(self.is_constructor(path, text) or self.is_copy(path, text) for text in self.crate.bodies[path]):
             self.faults[name] = "only rustc has it"
 
     def difference(self, path, name, text):
@@ -124,10 +122,3 @@ class Comparison:
         whole, made = read({}, 0, target(("parameter", 1))), event.value or ()
         fields = [field(whole, at) for at in range(len(made[1]))] if made[:1] == ("aggregate",) else []
         return path in self.names.derived and event.kind == "return" and made in (whole, aggregate(fields))
-
-    def look_at_one_sided(self):
-        """Looks at the kit's bodies that rustc does not have."""
-        for name in self.kit.bodies:
-            if self.target.has(name) and name not in self.compared and not self.listed.has("only the kit", name) \
-                    and not self.listed.has(f"only the kit, not {self.target.name}", name):
-                self.faults[name] = "only the kit has it"
