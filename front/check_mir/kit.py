@@ -89,6 +89,7 @@ class Graph:
         return then if name == "Skip" else self.plain(name, value, then)
 
     def plain(self, name, value, then):
+        """Adds the node of a form that has no others in it."""
         if name == "Return":
             return self.new(Node("return"))
         if name == "Assign":
@@ -101,7 +102,7 @@ class Graph:
 
 
 def type_words(kind):
-    """A type as a flat list of words, as `type_words` of rustc.py gives it too."""
+    """A type as a flat list of words, as `type_words` of names.py gives it too."""
     name, value = only(kind)
     if name == "Int":
         return [{64: "usize", 8: "u8", 32: "u32"}.get(value, str(value))]
@@ -203,6 +204,7 @@ class KitBody:
         raise Unknown(f"an offset of {count}")
 
     def operand(self, state, entry):
+        """The value of an operand: of a place, or a constant."""
         name, value = only(entry)
         if name in ("Copy", "Move"):
             return read(state.kit, state.memory, self.place(state, value))
@@ -229,6 +231,7 @@ class KitBody:
         return self.operation(name, inner[0], [self.operand(state, it) for it in inner[1:]])
 
     def operation(self, name, which, terms):
+        """An operation on numbers, or on four words at once."""
         kind, inner = only(which)
         if name == "Op1" and kind == "Cast":
             return cast(inner[2], *terms)
@@ -279,6 +282,7 @@ class KitBody:
         return node.then
 
     def call(self, state, node):
+        """A call: what a rule says of it, or an event."""
         name, types, of = self.callee(node.value)
         arguments = [self.operand(state, it) for it in node.arguments]
         place = self.place(state, node.place)

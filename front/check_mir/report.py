@@ -6,7 +6,7 @@ import re
 import subprocess
 import tempfile
 
-from kit import Kit, KitBody
+from kit import KitBody
 from names import Names
 from rustc import Crate, RustBody
 from state import State, Unknown
@@ -72,6 +72,7 @@ class Comparison:
         return self
 
     def report(self, name, fault):
+        """Counts a body that agrees, or that differs as the list says, and keeps any other difference."""
         if fault and self.listed.explains(name, fault):
             self.explained.append(name)
         elif fault:

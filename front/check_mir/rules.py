@@ -203,6 +203,7 @@ def lent_whole(walk, state, kit, rust):
 
 
 def same_text(walk, state, kit, rust):
+    """Whether the bytes of a text of the kit are those of a literal."""
     if rust[0] != "text":
         return None
     literal, bytes_of = rust[1].removeprefix("b"), kit[1][0] if kit[0] == "aggregate" and kit[1] else kit

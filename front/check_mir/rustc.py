@@ -6,7 +6,7 @@ import re
 from rules import RUST_CALLS, Branch, Call, of_call
 from state import Event, State, Unknown, reached, reaching
 from terms import (
-    UNIT, aggregate, base, cast, decided, field, local_of, number, offset, operation, read, reference, target, write,
+    UNIT, aggregate, cast, decided, field, local_of, number, offset, operation, read, reference, target, write,
 )
 
 BITS = {"u8": 8, "u32": 32, "u64": 64, "usize": 64, "char": 32}
@@ -74,6 +74,7 @@ class Crate:
         self.statics = dict(re.findall(r"(?m)^(alloc\d+) \(static: \w[\w:]*, size: 1, align: 1\) \{\n +(\w\w) ", text))
 
     def read_source(self, path):
+        """Takes in the variants of the enums of a source, and the modules of its types."""
         source = path.read_text(encoding="utf-8")
         enums = r"(?ms)^ *(?:pub(?:\(\w+\))? )?enum (\w+)[^{]*\{(.*?)^ *\}$|enum (\w+) \{([^{}\n]*)\}"
         for name, body, short, line in re.findall(enums, source):
@@ -200,6 +201,7 @@ class RustBody:
         return read(state.rust, state.memory, place)
 
     def operand(self, state, text):
+        """The value of an operand: of a place, or a constant."""
         text = text.strip()
         if text.startswith(("copy ", "move ")):
             return self.read(state, self.place(state, text[5:]))
@@ -226,6 +228,7 @@ class RustBody:
         return reference(place)
 
     def converted(self, state, found):
+        """A number in other bits, or a reference of an array as one of a slice."""
         value, kind = self.operand(state, found[1]), found[3]
         if kind == "IntToInt":
             return cast(BITS[found[2]], value)
@@ -278,6 +281,7 @@ class RustBody:
         return then
 
     def switch(self, state, found, then):
+        """A branch; the numbers of an `Ordering` are those of its variants, as the kit has them."""
         value, cases = self.operand(state, found[1]), dict(it.split(": bb") for it in found[2].split(", "))
         other = cases.pop("otherwise", None)
         cases = {int(key): label for key, label in cases.items()}
@@ -291,6 +295,7 @@ class RustBody:
         return known or Event("switch", value=value, cases=cases, other=other)
 
     def called(self, state, found, _):
+        """A call: what a rule says of it, or an event."""
         destination, call, then = found[1], found[2], found[3]
         opened = opened_at(call)
         name, texts = call[:opened], split(call[opened + 1 : -1])

@@ -36,6 +36,7 @@ class Walk:
         return self.equal_parts(state, known(state.facts, kit), known(state.facts, rust), compared)
 
     def equal_parts(self, state, kit, rust, compared):
+        """Whether two terms have equal parts, each compared as a term, or as a list of terms."""
         if len(kit) != len(rust):
             return False
         for one, other in zip(kit, rust):
@@ -118,6 +119,7 @@ class Walk:
         return fault
 
     def at_call(self, state, one, other):
+        """Where two calls differ: in the function, or in an argument; else both have one result."""
         is_listed = self.listed.is_pair(one.name, other.name)
         if fault := self.other_function(one, other, is_listed):
             return fault
@@ -175,8 +177,8 @@ class Walk:
         """Walks each way of a branch, with what it shows."""
         kit, kit_cases, kit_other = plain_switch(one.value, one.cases, one.other)
         rust, rust_cases, rust_other = plain_switch(other.value, other.cases, other.other)
-        if self.both(state, "branches on", kit, rust):
-            return self.fork(state, one, other)
+        if fault := self.both(state, "branches on", kit, rust):
+            return fault
         keys = sorted(set(kit_cases) | set(rust_cases))
         ways = [((True, key), kit_cases.get(key, kit_other), rust_cases.get(key, rust_other)) for key in keys]
         is_flag = kit[:2] in (("op", "Lt"), ("op", "Eq")) or set(keys) == {0, 1} and len(kit_cases) == len(rust_cases) == 1
