@@ -100,8 +100,8 @@ class Comparison:
             fault = Walk(kit, rust, self.listed).difference()
             unseen = [] if fault else [*kit.unseen(), *rust.unseen()]
             return fault or (f"no walk reached {', '.join(unseen[:9])}" if unseen else "")
-        except Unknown as form:
-            return f"unknown: {form}"
+        except (Unknown, AttributeError, LookupError, RecursionError, TypeError, ValueError) as form:
+            return f"unknown: {form if isinstance(form, Unknown) else repr(form)}"
 
     def is_constructor(self, path, text):
         """Whether a body only makes a variant of its parameters, as rustc writes a function for each variant."""

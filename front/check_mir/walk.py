@@ -154,11 +154,13 @@ class Walk:
 
     def equal_types(self, kit, rust):
         """Whether type arguments are the same, where each parameter has one partner. The kit may have more: associated types."""
-        for one, other in zip(kit, rust):
+        for one, other in zip(kit, rust or ()):
             if not (self.is_parameter(one, other) if one[0] == other[0] == "*" else one == other):
                 return False
+        if rust is None or len(kit) < len(rust):
+            return False
         more = kit[len(rust) :]
-        return len(kit) >= len(rust) and (all(it[0] == "*" for it in more) or kit == rust * 2)
+        return all(it[0] == "*" for it in more) or kit == rust * 2
 
     def change(self, state, one, other):
         """What a call may change: memory, and what is lent to it."""
