@@ -1,6 +1,7 @@
 """The tables of front/erase: which modules it makes, and what these may have. They are closed: what they do not name is refused.
 
-A construct is added with a reason, and with a case in front/check_erase. That asks of each entry that some source needs it.
+A construct is added with a reason, and with a case in front/check_erase where no other is like it.
+That asks of each entry that some source has it.
 """
 import dataclasses
 
@@ -67,11 +68,8 @@ BOUNDS = {"Copy", "Hasher", "IntoIterator", "Iterator", "Read", "Write"}
 GONE = {"Model": "std::marker", "Error": "thiserror"}
 # What no item may be called, nor what a `use` brings, beside all these: it is dropped, added or written by this name.
 RESERVED = set("Drop Global Sized alloc bool core shim std u8".split()) | PRELUDE
-# The types whose last parameter is the allocator `Global`, and the types of others that have a trait of these modules, none of
-# whose methods has the name of a method that such a type has by itself.
+# The types whose last parameter is the allocator `Global`.
 ALLOCATED = {"IntoIter"}
-FOREIGN = {"Middle for IntoIter", "Part for Block", "Part for Option", *(f"IndexRange for {it}" for it in (
-    "Range", "RangeFrom", "RangeFull", "RangeInclusive", "RangeTo", "RangeToInclusive"))}
 # The modules of std that are used, and what stands for them.
 STD = {"alloc": "crate::shim", "cmp": "core", "fmt": "core", "hash": "core", "iter": "core", "marker": "core", "mem": "core",
        "ops": "core", "slice": "core", "vec": "alloc", "simd": "crate::shim", "snapshot": "crate::shim"}
@@ -92,21 +90,6 @@ METHODS = set("checked_add checked_mul checked_next_multiple_of checked_sub div_
 # The closures that may stand.
 CLOSURES = {". map ( | ( word , other ) | O :: word ( * word , * other ) )", ". map_err ( | _ | ExtendFault :: Memory )",
             ". all ( | set | set . len ( ) == facts )", ". all ( | ( from , to ) | * from < nodes && * to < nodes )"}
-# The methods that Rust finds by a trait that each type has, or each struct here has by its derive, those of edition 2024 too, and
-# those of its iterators. Rust takes one by value before one of these modules that borrows, so none here may have its name: the
-# first on no type, the others on no iterator and in no trait.
-OF_ALL = set("clone clone_from clone_into to_owned borrow borrow_mut type_id into try_into into_future poll drop".split())
-OF_ITERATORS = set(
-    "advance_by advance_back_by all any array_chunks by_ref chain cloned cmp cmp_by collect collect_into copied count cycle "
-    "enumerate eq eq_by filter filter_map find find_map flat_map flatten fold for_each fuse ge gt inspect intersperse "
-    "intersperse_with into_iter is_empty is_partitioned is_sorted is_sorted_by is_sorted_by_key last le len lt map map_while "
-    "map_windows max max_by max_by_key min min_by min_by_key ne next next_back next_chunk nth nth_back partial_cmp partial_cmp_by "
-    "partition partition_in_place peekable position product reduce rev rfind rfold rposition scan size_hint skip skip_while "
-    "step_by sum take take_while try_collect try_find try_fold try_for_each try_reduce try_rfold unzip zip".split())
-# The methods of the other traits of Rust that types here have.
-OF_TRAITS = {"Ord": {"clamp", "cmp", "max", "min"}, "PartialOrd": {"ge", "gt", "le", "lt", "partial_cmp"}, "PartialEq": {"eq", "ne"},
-             "Eq": {"assert_fields_are_eq", "assert_receiver_is_total_eq"}, "Hash": {"hash"}, "Binary": {"fmt"}, "Debug": {"fmt"},
-             "Display": {"fmt", "to_string"}}
 
 
 @dataclasses.dataclass
@@ -114,7 +97,8 @@ class Target:
     """Modules that are made in one folder: their crates, the crates that they name beside these, and what the tables have for
     them beside all that: members, methods, closures, names, macros and modules of std; words and marks that are refused
     elsewhere; what a module imports that has a word (`prelude`); other crates; the texts of `write!`, which may name variables;
-    rules of macros, word by word; crates of which a root hands names on; and lent rows of other crates."""
+    rules of macros, word by word; crates of which a root hands names on; and lent rows of other crates. Where front/check_mir
+    does not compare what rustc compiles with what was proved, the methods that they may declare are a closed list too."""
 
     crates: dict
     home: str
@@ -132,6 +116,7 @@ class Target:
     rules: set = dataclasses.field(default_factory=set)
     handed: set = dataclasses.field(default_factory=set)
     slices: set = dataclasses.field(default_factory=set)
+    declares: set | None = None
 
     def members_of(self, name):
         return MEMBERS.get(name, set()) | self.members.get(name, set())
@@ -156,6 +141,7 @@ OF_C = Target(
     methods=set("is_some iter_mut reverse_bits".split()),
     words={"isize"},
     closures={". all ( | position | * position < length )"},
+    declares=set("bring_last_word cursor take_first take_first_of_second take_last take_words take_words_back walk".split()),
 )
 # The program `bits`, over the modules of the crate for Rust.
 OF_PROGRAM = Target(

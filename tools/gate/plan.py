@@ -169,7 +169,11 @@ class Plan:
         glue = ("front/wasm", "front/wrong", "front/wrong_lines", "front/checks.sh", "tools/kept.py")
         made = ("front/archive", "front/compilers", "front/c/bits.h", "front/c/source", "front/rust/src", *library)
         browsers = Stage("sets in a browser and in Node", ("front/wasm/test",), (*glue, *made), ("node", "npm", "tsc", "wasm-ld", "chromium", "python3"))
-        return [archives, postgres, browsers] if self.has("bits_c") else []
+        # (What these compare is the libraries' MIR, which the proofs leave in the folder.)
+        compilers = ("cargo", "rustc")
+        erased = [Stage("what rustc compiles and what was proved", ("front/check_mir/run",), tools=compilers, keeps=True),
+                  Stage("that comparison by itself", ("front/check_mir/test",), tools=compilers, keeps=True)]
+        return [archives, postgres, browsers] * self.has("bits_c") + erased * self.is_whole
 
     def last(self):
         """What runs the programs."""

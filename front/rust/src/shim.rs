@@ -306,10 +306,15 @@ pub mod row {
             Ok(())
         }
 
-        /// Of items whose hint says how many they are at most, as that of two rows side by side does.
+        /// It asks once, for as many items as the hint says at most. Without that it asks as they come, and keeps those that
+        /// had room.
         #[inline]
-        pub fn extend<I: Iterator<Item = T>>(&mut self, items: I) -> Result<(), AllocError> {
-            self.reserve(items.size_hint().1.unwrap_or(usize::MAX))?;
+        pub fn extend<I: Iterator<Item = T>>(&mut self, mut items: I) -> Result<(), AllocError> {
+            let (least, most) = items.size_hint();
+            self.reserve(most.unwrap_or(least))?;
+            if most.is_none() {
+                return items.try_for_each(|item| self.push(item));
+            }
             self.0.extend(items);
             Ok(())
         }

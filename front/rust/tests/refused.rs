@@ -638,6 +638,24 @@ fn a_row_is_changed_or_refused() {
 }
 
 #[test]
+fn a_row_is_extended_by_items_of_which_no_hint_says_how_many() {
+    for count in COUNTS {
+        let items = numbers(count);
+        let row_of = || Row::from_slice(Global::Try, &items[..count / 2]);
+        let mut left = items[count / 2..].iter().copied();
+        let mut row = row_of().map_err(|_| ()).unwrap();
+        let (answer, _) = granting(|| row.extend(std::iter::from_fn(|| left.next())));
+        assert!(answer.is_ok(), "{count}");
+        has(row, &items);
+        let mut left = items[count / 2..].iter().copied();
+        let mut row = row_of().map_err(|_| ()).unwrap();
+        let (answer, _) = refusing(0, || row.extend(std::iter::from_fn(|| left.next())));
+        assert_eq!(answer.is_ok(), count == 0, "{count}");
+        has(row, &items[..count / 2]);
+    }
+}
+
+#[test]
 fn a_row_that_is_not_to_say_so_ends_the_program() {
     let items = numbers(9_000);
     let calls: [fn(&[u64]); 4] = [
