@@ -28,12 +28,12 @@ class Names:
     def __init__(self, file, text):
         self.file, self.files, self.names, found = file, {}, {}, IMPORT.findall(text)
         if len(found) != len(re.findall(r"^ghost use\b", text, re.M)):
-            refuse(f"{file} has an import of another form")
+            sys.exit(f"{file} has an import of another form")
         for path, alias, names in found:
             for word in [alias] if alias else re.split(r",\s*", names.strip().rstrip(",")):
                 table, meant = (self.files, path) if alias else (self.names, (path, word))
                 if table.setdefault(word, meant) != meant:
-                    refuse(f"{file} imports {word} of two files")
+                    sys.exit(f"{file} imports {word} of two files")
 
     def meant(self, word):
         """The file and the name that a word means, or nothing."""
