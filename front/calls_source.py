@@ -77,10 +77,11 @@ class Parameter:
 
 
 class Export:
-    """A call of crates/bits_c: its module, name, docs, parameters, result and clauses."""
+    """A call of crates/bits_c: its module, name, docs, parameters, result and clauses, with the names that these import."""
 
-    def __init__(self, module, docs, name, lifetime, parameters, result, clauses):
+    def __init__(self, module, imported, docs, name, lifetime, parameters, result, clauses):
         self.module, self.name, self.result, self.clauses = module, name, result, " ".join(clauses.split())
+        self.imported = imported
         self.keeps_pointers = bool(lifetime)
         self.docs = " ".join(re.sub(r"^///", "", docs, flags=re.M).split())
         self.parameters = [Parameter(it, name) for it in " ".join(parameters.split()).rstrip(", ").split(", ") if it]
@@ -100,7 +101,8 @@ def exports(folder):
     found = {}
     for path in sorted((folder / "crates/bits_c/src").glob("*.rt")):
         text = path.read_text(encoding="utf-8")
-        read = [Export("" if path.stem == "lib" else path.stem, *it) for it in EXPORT.findall(text)]
+        names = Names(str(path.relative_to(folder)), text)
+        read = [Export("" if path.stem == "lib" else path.stem, names, *it) for it in EXPORT.findall(text)]
         lines = [line for line in text.splitlines() if 'extern "C"' in line]
         if len(read) != len(lines):
             names = {it.name for it in read}
