@@ -123,8 +123,8 @@ def closed(stored):
     for name, row in (it for table in tables for it in table.items()):
         if unknown := row.keys() - KEYS:
             refuse(f"calls.toml: {name} has {min(unknown)}, which is not known")
-        if "given" in row and not row.get("slow"):
-            refuse(f"calls.toml: {name} has `given` and no `slow`")
+        if not row.get("slow", "given" not in row):
+            refuse(f"calls.toml: {name} has `given` and no `slow`, or an empty one")
         if row.get("given") and not all(re.search(r"\bn\.|\bt\b", it) for it in row["given"].split(",")):
             refuse(f"calls.toml: {name} is always given the same: {row['given']}")
         if "c" in row and ("docs" in row or row["c"] not in (name.replace("_take", "_batch"), f"{name}_iter")):
