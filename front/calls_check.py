@@ -3,7 +3,8 @@ clauses say of a call that does its work."""
 import re
 
 from calls_c import STRUCTS, VALUES, parameter
-from calls_source import refuse
+from calls_source import WORD, refuse
+from publish_tables import BITS, MEANT, PRELUDE
 
 SETS = {"Bits": "SET", "BitsMut": "SET", "Room": "ROOM"}
 WIDTH = 125
@@ -35,6 +36,8 @@ LEVEL_2 = (
     (r"length directory\.old == model\.entries \(storage_words (\w+)\.now\.length\)",
      r"BITS_ASK_EQUAL(entries, bits_ranks_entries(\1->length))"),
 )
+# Where the names of these are defined.
+KNOWN = MEANT | {"nat_le": PRELUDE, "nat_lt": PRELUDE, "model.storage_words": BITS, "model.entries": "bitranks.specs.Ranks"}
 
 
 def pointers(call):
@@ -76,10 +79,23 @@ def apart(call):
     return asked
 
 
+def check_names(call, text):
+    """Refuses a part of a clause that another definition gives its meaning than that of the table."""
+    for word in (it for it in WORD.findall(text) if it not in {it.name for it in call.parameters}):
+        meant = call.imported.meant(word)
+        if (meant or word in KNOWN) and meant != (KNOWN.get(word), word.rpartition(".")[2]):
+            refuse(f"bits_{call.name}: `{word}` is not that of {KNOWN.get(word, 'a file that is known')}")
+    if sign := next((it for it in call.imported.signs(text) if call.imported.files_of(it) != {PRELUDE}), None):
+        refuse(f"bits_{call.name}: `{sign}` is not that of {PRELUDE}")
+
+
 def level_2(call):
     """What is asked from level 2 on. What a refusal depends on has to be known as a whole."""
     clauses = [] if call.name in QUESTIONS else [it.strip().rstrip(" }") for it in re.split(r"\bensures\b", call.clauses)]
-    asked = [found.expand(text) for pattern, text in LEVEL_2 for it in clauses for found in re.finditer(pattern, it)]
+    found = [(it, text) for pattern, text in LEVEL_2 for clause in clauses for it in re.finditer(pattern, clause)]
+    asked = [it.expand(text) for it, text in found]
+    for it, _ in found:
+        check_names(call, it[0])
     answer = next((it for it in clauses if it.startswith("answer {")), "")
     left = re.sub("|".join(pattern for pattern, _ in LEVEL_2), "", answer)
     left = re.sub(r"answer \{|IsTrue|result|prelude\.|[≡↔()& ]", "", left)

@@ -210,7 +210,8 @@ def texts(folder):
             row = rows.get(name) or refuse(f"bits_{name} stands between marks, and its row has no `docs`")
             view = row.get("view", name)
             there[name] = of_views(views, view)
-            if view != name and ({("Bits", name), ("BitsMut", name)} & views.keys() or not set(name.split("_")) & set(view.split("_"))):
+            is_named = {("Bits", name), ("BitsMut", name)} & views.keys()
+            if view != name and (is_named or not set(name.split("_")) & set(view.split("_"))):
                 refuse(f"bits_{name} is not the method {view} by its name")
             return export(Export(name, row, there[name], target))
 

@@ -28,12 +28,12 @@ class Names:
     def __init__(self, file, text):
         self.file, self.files, self.names, found = file, {}, {}, IMPORT.findall(text)
         if len(found) != len(re.findall(r"^ghost use\b", text, re.M)):
-            refuse(f"{file} has an import of another form")
+            sys.exit(f"{file} has an import of another form")
         for path, alias, names in found:
             for word in [alias] if alias else re.split(r",\s*", names.strip().rstrip(",")):
                 table, meant = (self.files, path) if alias else (self.names, (path, word))
                 if table.setdefault(word, meant) != meant:
-                    refuse(f"{file} imports {word} of two files")
+                    sys.exit(f"{file} imports {word} of two files")
 
     def meant(self, word):
         """The file and the name that a word means, or nothing."""
@@ -77,10 +77,11 @@ class Parameter:
 
 
 class Export:
-    """A call of crates/bits_c: its module, name, docs, parameters, result and clauses."""
+    """A call of crates/bits_c: its module, name, docs, parameters, result and clauses, with the names that these import."""
 
-    def __init__(self, module, docs, name, lifetime, parameters, result, clauses):
+    def __init__(self, module, imported, docs, name, lifetime, parameters, result, clauses):
         self.module, self.name, self.result, self.clauses = module, name, result, " ".join(clauses.split())
+        self.imported = imported
         self.keeps_pointers = bool(lifetime)
         self.docs = " ".join(re.sub(r"^///", "", docs, flags=re.M).split())
         self.parameters = [Parameter(it, name) for it in " ".join(parameters.split()).rstrip(", ").split(", ") if it]
@@ -100,7 +101,8 @@ def exports(folder):
     found = {}
     for path in sorted((folder / "crates/bits_c/src").glob("*.rt")):
         text = path.read_text(encoding="utf-8")
-        read = [Export("" if path.stem == "lib" else path.stem, *it) for it in EXPORT.findall(text)]
+        names = Names(str(path.relative_to(folder)), text)
+        read = [Export("" if path.stem == "lib" else path.stem, names, *it) for it in EXPORT.findall(text)]
         lines = [line for line in text.splitlines() if 'extern "C"' in line]
         if len(read) != len(lines):
             names = {it.name for it in read}
@@ -121,8 +123,8 @@ def closed(stored):
     for name, row in (it for table in tables for it in table.items()):
         if unknown := row.keys() - KEYS:
             refuse(f"calls.toml: {name} has {min(unknown)}, which is not known")
-        if "given" in row and not row.get("slow"):
-            refuse(f"calls.toml: {name} has `given` and no `slow`")
+        if not row.get("slow", "given" not in row):
+            refuse(f"calls.toml: {name} has `given` and no `slow`, or an empty one")
         if row.get("given") and not all(re.search(r"\bn\.|\bt\b", it) for it in row["given"].split(",")):
             refuse(f"calls.toml: {name} is always given the same: {row['given']}")
         if "c" in row and ("docs" in row or row["c"] not in (name.replace("_take", "_batch"), f"{name}_iter")):

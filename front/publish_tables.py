@@ -277,7 +277,7 @@ LEFT_OUT = ("`Err`", "The set is then as it was.", "(`range_is_valid`)", "`to_va
 PRELUDE, BITS, RANGES, SLOTS = "std.specs.Prelude", "fixedbitset.specs.Bits", "fixedbitset.specs.Ranges", "bitslots.specs.Slots"
 MEANT = {
     **dict.fromkeys(("IsTrue", "length", "max", "min", "prelude.length"), PRELUDE), "All": "std.specs.List",
-    **dict.fromkeys(("model.words_needed", "storage_words", "words_needed"), BITS),
+    **dict.fromkeys(("model.words", "model.words_needed", "storage_words", "words_needed"), BITS),
     **dict.fromkeys(("is_valid", "over", "ranges.is_valid"), RANGES), **dict.fromkeys(("IsTaken", "IsTakenStretch"), SLOTS),
     **dict.fromkeys(("held", "value"), "fixedbitset.specs.Views"), "IsFinite": "std.specs.Iterator",
     "IsClean": "fixedbitset.specs.Stored", "IsTable": "bitrows.specs.Stored",
