@@ -11,8 +11,8 @@ use crate::proved::bitwords::positions;
 const SHORT: usize = 4 * lanes::LANE;
 
 impl<'a> Bits<'a> {
-    /// Whether the words are those of a set of `length` positions as they stand: as many whole lanes
-    /// as the length needs, and no bit past it. It changes nothing.
+    /// Whether the words are those of a set of `length` positions as they stand: as many whole
+    /// lanes as the length needs, and no bit past it. It changes nothing.
     ///
     /// It looks at the word of the length and at those after it, which are at most one lane.
     ///
