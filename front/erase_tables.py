@@ -153,7 +153,7 @@ OF_C = Target(
     "crate::",
     below=CRATES,
     members={"u32": {"MAX"}, "Ordering": {"Greater", "Less"}},
-    methods=set("is_some iter_mut reverse_bits".split()),
+    methods=set("iter_mut reverse_bits".split()),
     words={"isize"},
     closures={". all ( | position | * position < length )"},
 )
