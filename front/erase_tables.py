@@ -138,7 +138,7 @@ OF_C = Target(
     "crate::",
     below=CRATES,
     members={"u32": {"MAX"}, "Ordering": {"Greater", "Less"}},
-    methods=set("is_some iter_mut reverse_bits".split()),
+    methods=set("iter_mut reverse_bits".split()),
     words={"isize"},
     closures={". all ( | position | * position < length )"},
     declares=set("bring_last_word cursor take_first take_first_of_second take_last take_words take_words_back walk".split()),

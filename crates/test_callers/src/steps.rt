@@ -8,12 +8,14 @@ ghost use Rattle.std.specs.declared.option.Option.TheVariants.{Some};
 ghost use Rattle.bitlanes.specs.Search.{IsFirstOne};
 ghost use Rattle.fixedbitset.specs.Bits.{minimum};
 ghost use Rattle.fixedbitset.specs.Neighbours.{next_one};
+ghost use Rattle.fixedbitset.specs.Runs.{last_gap};
 ghost use Rattle.fixedbitset.specs.TwoSets.{intersection, difference};
+ghost use Rattle.fixedbitset.specs.Views.{value};
 
 use bitlanes::lanes;
 use bitlanes::ops::{And, Or};
 use bitlanes::word::Block;
-use fixedbitset::{FixedBitSet, Steps, counted};
+use fixedbitset::{Bits, FixedBitSet, Steps, counted};
 use std::alloc::AllocError;
 
 /// Counted calls whose steps the caller can sum up.
@@ -93,6 +95,23 @@ pub fn none_steps(words: &[Block], steps: &mut Steps) -> bool
     ensures of_ninth { IsFirstOne words.now 8 → steps.new ≡ steps.old + 3 }
 {
     lanes::none_one(words, steps)
+}
+
+/// A count by an iterator over 9 words: two lanes of the seven between its ends, and the two ends.
+pub fn ones_of_nine_words(set: Bits<'_>, steps: &mut Steps) -> usize
+    requires { set.length ≡ 576 }
+    ensures { steps.new ≡ steps.old + 3 }
+{
+    set.ones().count_left(steps)
+}
+
+/// A search for the last gap, which begins in word 1 of 9: the words from there on are two lanes.
+pub fn last_gap_from_word_1(set: Bits<'_>, steps: &mut Steps) -> Option<usize>
+    requires long { set.length ≡ 576 }
+    requires gap { last_gap (value set) 3 576 ≡ Some 100 }
+    ensures { steps.old + 2 ≤ steps.new }
+{
+    set.last_gap(3, 576, steps)
 }
 
 /// Sets of any lengths whose least common position is 300: it stands in the second lane.

@@ -3,8 +3,8 @@
 use fixedbitset::{FixedBitSet, Steps, counted};
 use std::test::Fail;
 use test_callers::steps::{
-    any_up_to_70, disjoint_up_to_300, none_steps, subset_up_to_300, unite_nine_words,
-    unite_seven_words,
+    any_up_to_70, disjoint_up_to_300, last_gap_from_word_1, none_steps, ones_of_nine_words,
+    subset_up_to_300, unite_nine_words, unite_seven_words,
 };
 
 #[test]
@@ -15,6 +15,12 @@ fn callers_of_counted_calls(rt: HostRuntime) -> Result<(), Fail> {
     let mut nine = FixedBitSet::with_capacity(rt.alloc(), 576)?;
     let other = FixedBitSet::with_capacity(rt.alloc(), 576)?;
     unite_nine_words(&mut nine, &other, &mut Steps::new())?;
+    nine.insert_range(103..);
+    assert_eq!(rt; ones_of_nine_words(nine.as_bits(), &mut Steps::new()), 473);
+    assert_eq!(rt;
+        last_gap_from_word_1(nine.as_bits(), &mut Steps::new()),
+        Some(100)
+    );
     Ok(())
 }
 
