@@ -179,7 +179,7 @@ class KitBody:
             size = self.size(value[0])
             return size and size * value[1]["Lit"]
         if name != "Named":
-            return {"Bool": 1, "Vector": 8, "Ref": 8, "Struct": 16}.get(name)
+            return {"Bool": 1, "Vector": 8, "Ptr": 8, "Ref": 8, "Struct": 16}.get(name)
         shape = next((it["shape"] for it in self.body["types"] if it["name"] == value[0]["name"]), {})
         if "Variants" in shape:
             return None if any(shape["Variants"]) else 1
@@ -195,11 +195,9 @@ class KitBody:
             return offset(start, count)
         if count[0] == "number" and size:
             return offset(start, number(count[1] // size))
-        if count == SIZE:
-            return offset(start, number(1))
         if size == 1:
             return offset(start, count)
-        if count[:2] == ("op", "Mul"):
+        if count[:2] == ("op", "Mul") and (size is None or count[3] in (SIZE, number(size))):
             return offset(start, count[2])
         raise Unknown(f"an offset of {count}")
 

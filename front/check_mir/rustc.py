@@ -108,8 +108,6 @@ class Crate:
         if found := re.fullmatch(r"<(.*) as (.*)>::(\w+)", text):
             name = re.sub(r"^\w+::", "", found[2].split("<")[0]) + "::" + found[3] if re.match(self.tops, found[2]) else text
             return ("const", name, "Param" if re.fullmatch(r"\w+", found[1]) else found[1])
-        if self.variant(text) is not None:
-            return aggregate([number(self.variant(text))])
         return ("text", text) if text[0] in '"b' else ("const", text, "")
 
     def evaluated(self, name):

@@ -45,8 +45,6 @@ def is_part(term, whole):
 
 
 def element(term, at):
-    if term[0] == "aggregate" and at[0] == "number" and at[1] < len(term[1]):
-        return term[1][at[1]]
     return term[2] if term[:2] == ("op", "repeat") else ("element", term, at)
 
 
@@ -58,10 +56,6 @@ def target(pointer, kind=""):
     """The place that a pointer leads to; the kind tells four words, read at once, from the first of them."""
     if not kind and pointer[0] == "reference":
         return pointer[1]
-    if not kind and pointer[0] == "offset" and pointer[1][0] == "reference":
-        return ("item of", pointer[1][1], pointer[2])
-    if pointer[0] == "offset" and pointer[2] == number(0):
-        pointer = pointer[1]
     return ("target", pointer, kind)
 
 
@@ -140,9 +134,8 @@ def write(store, place, value):
     whole = store.get(at, UNDEFINED)
     while place[0] != "local":
         old, at_part = part(whole, place[1]), place[2]
-        index = at_part if place[0] == "field of" else at_part[1] if at_part[0] == "number" else None
-        if old[0] == "aggregate" and index is not None and (place[0] == "item of" or index < len(old[1])):
-            value = aggregate((*old[1][:index], value, *old[1][index + 1 :]))
+        if place[0] == "field of" and old[0] == "aggregate" and at_part < len(old[1]):
+            value = aggregate((*old[1][:at_part], value, *old[1][at_part + 1 :]))
         else:
             value = ("updated" if place[0] == "field of" else "set", old, at_part, value)
         place = place[1]
