@@ -11,21 +11,11 @@ refuse() {
   exit 125
 }
 
-# The crates that the program stands on, and itself, by crates.txt: a line of those that stand on no other, then one of those that
-# stand on these alone, and so on.
+# The crates that the program stands on and the program itself, the lowest first, by crates.txt.
 crates() {
   tac "$top/crates.txt" | awk -F '[: ]+' -v wanted=" $crate " '
-    !/^#/ && NF && index(wanted, " " $1 " ") { lines[++count] = $0; $1 = ""; wanted = wanted $0 " " }
-    END {
-      for (; count; count--) {
-        last = split(lines[count], names)
-        at = 1
-        for (i = 2; i <= last; i++) if (rank[names[i]] >= at) at = rank[names[i]] + 1
-        rank[names[1]] = at
-        round[at] = round[at] " " names[1]
-      }
-      for (at = 1; at in round; at++) print round[at]
-    }'
+    !/^#/ && NF && index(wanted, " " $1 " ") { all = $1 " " all; $1 = ""; wanted = wanted $0 " " }
+    END { print all }'
 }
 
 # is_newest PROGRAM PATHS..: whether it is there, and none of these files, or of those below these folders, is newer
@@ -73,43 +63,32 @@ attend() {
 # progress NUMBER: reads lines of crates, each behind the name of its crate, and says once a minute how far their proofs are, by
 # what the kit says of its functions, or that it waits.
 progress() {
-  local -A far=()
-  local line said proved=0 began=$SECONDS next=$((SECONDS + minute)) name
-  local of_kit='^([a-z_]+): (so far: ([0-9]+ of [0-9]+ functions)|rt: (.*waiting.*))'
+  local line far= proved=0 began=$SECONDS next=$((SECONDS + minute))
+  local of_kit='^([a-z_]+: )(so far: ([0-9]+ of [0-9]+ functions)|rt: (.*waiting.*))'
   while read -rt "$minute" line || [ $? -gt 128 ]; do
-    if [[ $line =~ $of_kit ]]; then far[${BASH_REMATCH[1]}]=${BASH_REMATCH[3]}${BASH_REMATCH[4]}; fi
-    if [[ $line == *": is proved" ]]; then unset "far[${line%%:*}]" && proved=$((proved + 1)); fi
+    if [[ $line =~ $of_kit ]]; then far="; ${BASH_REMATCH[1]}${BASH_REMATCH[3]}${BASH_REMATCH[4]}"; fi
+    if [[ $line == *": is proved" ]]; then far= proved=$((proved + 1)); fi
     if [ "$SECONDS" -ge "$next" ]; then
-      said="$((SECONDS - began)) seconds, $proved of $1 crates are proved"
-      for name in "${!far[@]}"; do said+="; $name: ${far[$name]}"; done
-      tell "$said" && next=$((SECONDS + minute))
+      tell "$((SECONDS - began)) seconds, $proved of $1 crates are proved$far" && next=$((SECONDS + minute))
     fi
     line=
   done
 }
 
-# prove_one NAME JOBS: proves a library, or proves the program, builds it and runs it on what is stored for it
-prove_one() {
-  local call=(lib --jobs "$2") stored=() given=/dev/null line
-  cd "$top/crates/$1"
-  if [ "$1" = "$crate" ]; then
-    if [ -e args ]; then mapfile -t stored <args; fi
-    call=(run --jobs "$2" -- "${stored[@]}") given=stdin
-  fi
-  { rt "${call[@]}" <"$given" 2>&1 && echo "is proved"; } | while IFS= read -r line; do echo "$1: $line"; done
-}
-
-# Proves all crates, those side by side of which none stands on another.
+# Proves the crates, the lowest first, and builds the program, which is run on what is stored for it. (The kit has one run wait for
+# another that stands on the same crates, so they are not proved side by side; each takes all processors.)
 prove_all() {
-  local names name job jobs=() processors=${RT_JOBS:-$(nproc)}
-  while read -ra names; do
-    for name in "${names[@]}"; do
-      prove_one "$name" "$((processors / ${#names[@]} > 1 ? processors / ${#names[@]} : 1))" </dev/null &
-      jobs+=("$!")
-    done
-    for job in "${jobs[@]}"; do wait "$job" || return; done
-    jobs=()
-  done < <(crates)
+  local name call given stored=() line jobs
+  jobs=${RT_JOBS:-$(nproc)}
+  for name in $(crates); do
+    cd "$top/crates/$name"
+    call=(lib --jobs "$jobs") given=/dev/null
+    if [ "$name" = "$crate" ]; then
+      if [ -e args ]; then mapfile -t stored <args; fi
+      call=(run --jobs "$jobs" -- "${stored[@]}") given=stdin
+    fi
+    { rt "${call[@]}" <"$given" 2>&1 && echo "is proved"; } | while IFS= read -r line; do echo "$name: $line"; done || return
+  done
 }
 
 # Proves and builds the program. Its time is that of the start, so a source that is edited meanwhile is newer.
