@@ -98,7 +98,7 @@ build() {
   number=$(crates | wc -w)
   { mkdir -p "$out" && touch "$out/started" && : >"$out/log"; } 2>/dev/null ||
     refuse "to build it takes a folder to write to, and $out is none"
-  [ -e "$top/crates/bitlanes/out" ] || long=", which takes 10 to 15 minutes the first time"
+  [ -e "$top/crates/bitlanes/out" ] || long=", which takes many minutes the first time"
   tell "proving and building$long"
   prove_all | tee -a "$out/log" | progress "$number" ||
     { tail -n 20 "$out/log" >&2 && refuse "it was not built; $out/log has all that was said"; }
